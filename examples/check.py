@@ -1,11 +1,10 @@
 #!/usr/bin/env python3
 """Predicts the answers to scripts from docs/FORMAT.md alone, and compares a program with them.
 
-    check.py PROGRAM [COUNT [SEED]]   makes COUNT scripts (100), runs `PROGRAM` with each of the words `replay`,
-                                      `profile`, `flow` and `smooth` on each and compares
+    check.py PROGRAM [COUNT [SEED]]   makes COUNT scripts (100), runs `PROGRAM` with each of its words that
+                                      answer turn by turn on each and compares
     check.py --predict < SCRIPT       writes the answers to a script, and ends with its status
-    check.py --profile < SCRIPT       the same, with the opened numbers of its paths; --flow with the lines of their
-                                      flow fields, and --smooth with their smoothed waypoints
+    check.py --WORD < SCRIPT          the same for another word than `replay`, with the line that it writes after each path
     check.py --make FOLDER COUNT SEED writes COUNT scripts and their answers, as N, N.args and N.stdout
 
 The status is 0 where all agree. Only Python's own library is used.
@@ -22,7 +21,8 @@ import sys
 SIDE = 65536  # the raw side of a navcell
 CHUNK = 96
 EDITS = ("add", "remove", "move")
-WORDS = ("replay", "profile", "flow", "smooth")
+NOTES = {"profile": "opened", "flow": "flow", "smooth": "smooth"}  # how the line begins that a word writes after each path
+WORDS = ("replay", *NOTES)
 # in the order in which the chosen walk prefers them
 STEPS = {"N": (0, 1), "E": (1, 0), "S": (0, -1), "W": (-1, 0)}
 STEPS.update({"NE": (1, 1), "SE": (1, -1), "SW": (-1, -1), "NW": (-1, 1)})
@@ -704,7 +704,7 @@ class Maker:
 
 
 def main(words):
-    if words in (["--predict"], ["--profile"], ["--flow"], ["--smooth"]):
+    if len(words) == 1 and words[0] in ("--predict", *(f"--{it}" for it in NOTES)):
         text, status = predicted(sys.stdin.buffer.read(), words[0][2:].replace("predict", "replay"))
         sys.stdout.buffer.write(text)
         return status

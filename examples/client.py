@@ -1,15 +1,15 @@
 #!/usr/bin/env python3
 """A game that asks the service turn by turn, over a pipe: client.py PROGRAM [WORD].
 
-PROGRAM is the built file, out/pathserve or out/pathserve-unproved. WORD is replay, or profile, flow or smooth, under which a
-line more follows each path.
+PROGRAM is the built file, out/pathserve or out/pathserve-unproved. WORD is replay, or another word that answers turn by
+turn: under those a line more follows each path.
 """
 import json
 import math
 import subprocess
 import sys
 
-LINES_OF_PATH = {"replay": 1, "profile": 2, "flow": 2, "smooth": 2}  # by the program's word: how many lines answer a path
+NOT_BY_TURNS = {"serve", "make"}  # the words of the program that read on before they answer, or read nothing
 
 
 def decimal(number):
@@ -20,7 +20,7 @@ def decimal(number):
 class Service:
     def __init__(self, program, map_line, word="replay"):
         self.process = subprocess.Popen([program, word], stdin=subprocess.PIPE, stdout=subprocess.PIPE, text=True)
-        self.lines_of_path = LINES_OF_PATH[word]
+        self.lines_of_path = 1 if word == "replay" else 2
         self.send([map_line])
 
     def send(self, lines):
@@ -54,7 +54,7 @@ class Service:
 
 
 def main(words):
-    if len(words) not in (1, 2) or words[0].startswith("-") or not LINES_OF_PATH.keys() >= {*words[1:]}:
+    if len(words) not in (1, 2) or words[0].startswith("-") or NOT_BY_TURNS & {*words[1:]}:
         is_asked = words in (["-h"], ["--help"])
         print(__doc__, file=sys.stdout if is_asked else sys.stderr)
         return 0 if is_asked else 2

@@ -108,7 +108,7 @@ typedef struct pathserve_finder { uint64_t live; void *at; } pathserve_finder; /
  * does nothing. */
 void pathserve_close(pathserve_match *match);
 
-/* ======== a match by text: what the program does by `replay`, `profile`, `flow` or `smooth` ======== */
+/* ======== a match by text: what the program does by `replay`, or by a word that writes more after each path ======== */
 
 enum {
     PATHSERVE_REPLAY = 0,  /* the answers */
@@ -117,7 +117,10 @@ enum {
     PATHSERVE_SMOOTH = 3   /* and for each path its smoothed waypoints */
 };
 
-/* Opens a closed handle: a match whose script has no bytes yet. `report` is one of the four above.
+/* The words of the program for these, each at its number. */
+#define PATHSERVE_REPORT_WORDS "replay", "profile", "flow", "smooth"
+
+/* Opens a closed handle: a match whose script has no bytes yet. `report` is one of the numbers above.
  * DONE, OPEN, BAD_VALUE, NO_MEMORY. */
 pathserve_status pathserve_open(pathserve_match *match, uint32_t report);
 
@@ -198,19 +201,140 @@ enum { /* pathserve_post.goal of a path; 0 of other posts */
 /* A post. Each kind uses `kind`, `caller` and the fields named there; every other field is 0. Limits are in navcells: past
  * them, or with a middle or a point off the map, the post's reply is a refusal. */
 typedef struct pathserve_post {
-    uint8_t kind;
-    uint8_t caller;                 /* from 0 */
-    uint8_t class_number;           /* from 0 */
-    uint8_t goal;
+    uint8_t kind;                   /* 1 to 6 */
+    uint8_t caller;                 /* from 0, below the map's number of callers */
+    uint8_t class_number;           /* from 0, below the map's number of classes */
+    uint8_t goal;                   /* 1 to 6 */
     uint16_t mask;                  /* the classes that an obstruction blocks: bit k is for class k; other bits are ignored */
     uint16_t zero;
-    uint32_t id;                    /* an obstruction's number, shared by all callers */
-    pathserve_fixed x, z;           /* a middle or a point */
-    pathserve_fixed goal_x, goal_z; /* the middle of a goal */
+    uint32_t id;                    /* an obstruction's number, any of 32 bits, shared by all callers */
+    pathserve_fixed x, z;           /* a middle or a point: from 0 to below the map's side */
+    pathserve_fixed goal_x, goal_z; /* the middle of a goal: the same */
     pathserve_fixed ux, uz;         /* the unit vector that a rectangle lies along: |ux*ux + uz*uz - 2^32| <= 2^25 */
     pathserve_fixed hw, hh;         /* its half sides, along the vector and across it: 0 to 256, of a goal 0 to 4096 */
     pathserve_fixed radius;         /* a half side, 0 to 256; a radius, 0 to 4096; a distance, 0 to 3840 */
 } pathserve_post;
+
+/* ---- makers of posts: each fills the fields that its kind uses, and the others with 0. They are part of this header, and not of
+ * the library: a game may as well fill posts itself ---- */
+
+#define PATHSERVE_EMPTY_POST {0, 0, 0, 0, 0, 0, 0, 0, 0, 0, 0, 0, 0, 0, 0, 0} /* each of the 16 fields is 0 */
+
+#ifdef __GNUC__
+#define PATHSERVE_MAKER static inline __attribute__((unused))
+#else
+#define PATHSERVE_MAKER static inline
+#endif
+
+/* The coordinate of the middle of a column or a row. */
+PATHSERVE_MAKER pathserve_fixed pathserve_make_middle(uint16_t place) {
+    return (pathserve_fixed)place * PATHSERVE_NAVCELL + PATHSERVE_NAVCELL / 2;
+}
+
+/* A post of a kind about a point, for the makers below. */
+PATHSERVE_MAKER pathserve_post pathserve_make_post(uint8_t kind, uint8_t caller, pathserve_fixed x, pathserve_fixed z) {
+    pathserve_post post = PATHSERVE_EMPTY_POST;
+    post.kind = kind;
+    post.caller = caller;
+    post.x = x;
+    post.z = z;
+    return post;
+}
+
+/* Adds the obstruction `id`: a square along the axes with its middle at (x, z). */
+PATHSERVE_MAKER pathserve_post pathserve_make_add_unit(uint8_t caller, uint32_t id, uint16_t mask, pathserve_fixed x,
+                                                       pathserve_fixed z, pathserve_fixed half_side) {
+    pathserve_post post = pathserve_make_post(PATHSERVE_ADD_UNIT, caller, x, z);
+    post.id = id;
+    post.mask = mask;
+    post.radius = half_side;
+    return post;
+}
+
+/* Adds the obstruction `id`: a rectangle about (x, z) with the half side `hw` along the unit vector (ux, uz) and `hh` across. */
+PATHSERVE_MAKER pathserve_post pathserve_make_add_square(uint8_t caller, uint32_t id, uint16_t mask, pathserve_fixed x,
+                                                         pathserve_fixed z, pathserve_fixed ux, pathserve_fixed uz,
+                                                         pathserve_fixed hw, pathserve_fixed hh) {
+    pathserve_post post = pathserve_make_post(PATHSERVE_ADD_SQUARE, caller, x, z);
+    post.id = id;
+    post.mask = mask;
+    post.ux = ux;
+    post.uz = uz;
+    post.hw = hw;
+    post.hh = hh;
+    return post;
+}
+
+/* Removes the obstruction `id`. */
+PATHSERVE_MAKER pathserve_post pathserve_make_remove(uint8_t caller, uint32_t id) {
+    pathserve_post post = pathserve_make_post(PATHSERVE_REMOVE, caller, 0, 0);
+    post.id = id;
+    return post;
+}
+
+/* Moves the obstruction `id`, so that its middle lies at (x, z). */
+PATHSERVE_MAKER pathserve_post pathserve_make_move(uint8_t caller, uint32_t id, pathserve_fixed x, pathserve_fixed z) {
+    pathserve_post post = pathserve_make_post(PATHSERVE_MOVE, caller, x, z);
+    post.id = id;
+    return post;
+}
+
+/* Asks for the region and the area at (x, z). */
+PATHSERVE_MAKER pathserve_post pathserve_make_region(uint8_t caller, uint8_t class_number, pathserve_fixed x, pathserve_fixed z) {
+    pathserve_post post = pathserve_make_post(PATHSERVE_REGION, caller, x, z);
+    post.class_number = class_number;
+    return post;
+}
+
+/* Asks for a path from (x, z) to a goal of a kind about a point, for the makers below. */
+PATHSERVE_MAKER pathserve_post pathserve_make_path(uint8_t caller, uint8_t class_number, pathserve_fixed x, pathserve_fixed z,
+                                                   uint8_t goal, pathserve_fixed goal_x, pathserve_fixed goal_z) {
+    pathserve_post post = pathserve_make_post(PATHSERVE_PATH, caller, x, z);
+    post.class_number = class_number;
+    post.goal = goal;
+    post.goal_x = goal_x;
+    post.goal_z = goal_z;
+    return post;
+}
+
+/* Asks for a path from (x, z) to the cell of a point. */
+PATHSERVE_MAKER pathserve_post pathserve_make_path_to_point(uint8_t caller, uint8_t class_number, pathserve_fixed x,
+                                                            pathserve_fixed z, pathserve_fixed goal_x, pathserve_fixed goal_z) {
+    return pathserve_make_path(caller, class_number, x, z, PATHSERVE_POINT, goal_x, goal_z);
+}
+
+/* Asks for a path from (x, z) into a circle, or if `outside` is not 0, out of it. */
+PATHSERVE_MAKER pathserve_post pathserve_make_path_to_circle(uint8_t caller, uint8_t class_number, pathserve_fixed x,
+                                                             pathserve_fixed z, pathserve_fixed goal_x, pathserve_fixed goal_z,
+                                                             pathserve_fixed radius, int outside) {
+    pathserve_post post = pathserve_make_path(caller, class_number, x, z, PATHSERVE_CIRCLE, goal_x, goal_z);
+    if (outside) post.goal = PATHSERVE_NOT_CIRCLE;
+    post.radius = radius;
+    return post;
+}
+
+/* Asks for a path from (x, z) into a rectangle along the unit vector (ux, uz), or if `outside` is not 0, out of it. */
+PATHSERVE_MAKER pathserve_post pathserve_make_path_to_square(uint8_t caller, uint8_t class_number, pathserve_fixed x,
+                                                             pathserve_fixed z, pathserve_fixed goal_x, pathserve_fixed goal_z,
+                                                             pathserve_fixed ux, pathserve_fixed uz, pathserve_fixed hw,
+                                                             pathserve_fixed hh, int outside) {
+    pathserve_post post = pathserve_make_path(caller, class_number, x, z, PATHSERVE_SQUARE, goal_x, goal_z);
+    if (outside) post.goal = PATHSERVE_NOT_SQUARE;
+    post.ux = ux;
+    post.uz = uz;
+    post.hw = hw;
+    post.hh = hh;
+    return post;
+}
+
+/* Asks for a path from (x, z) to the cells around the obstruction `id`, at most `distance` from it. */
+PATHSERVE_MAKER pathserve_post pathserve_make_path_to_obstruction(uint8_t caller, uint8_t class_number, pathserve_fixed x,
+                                                                  pathserve_fixed z, uint32_t id, pathserve_fixed distance) {
+    pathserve_post post = pathserve_make_path(caller, class_number, x, z, PATHSERVE_OBSTRUCTION, 0, 0);
+    post.id = id;
+    post.radius = distance;
+    return post;
+}
 
 /* Adds posts to the turn, after those that it has. The edits of a turn are made caller by caller from 0 on, and post by post:
  * never in the order in which two callers posted. DONE: all were taken. BAD_VALUE: an unknown kind, goal, caller or class, or

@@ -16,7 +16,7 @@ import specs
 PAGE = "docs/CRATES.md"
 HEAD = """# The crates
 
-Layer by layer from the bottom up: what each crate is for, a picture where one is quicker, its main type, and what it does not do. Made by `tools/crates.py` from the heads of the crates; [ARCHITECTURE.md](ARCHITECTURE.md) draws their layers, and [PROVED.md](PROVED.md) says what of them is proved.
+For a contributor, layer by layer from the bottom up: what each crate is for, a picture where one is quicker, its main type, and what it does not do. Made by `tools/crates.py` from the heads of the crates; [ARCHITECTURE.md](ARCHITECTURE.md) draws their layers, and [PROVED.md](PROVED.md) says what of them is proved.
 """
 
 

@@ -1,7 +1,7 @@
 #!/usr/bin/env python3
 """Prints the table of forms: the keys of each line and goal of a script, what stands under them, and the numbers of the C structs.
 
-It is read out of the crates: the keys out of the definitions of script_text, the numbers out of flat_posts and pathserve_c.
+It is read out of the crates: the forms out of the table of script_text, the numbers out of flat_posts and pathserve_c.
 What a client needs of them stands in other places too: the header, the packages for Python and Rust, docs/FORMAT.md and
 examples/check.py. `tools/tests/test_forms.py` holds these against the table.
 """
@@ -11,9 +11,7 @@ import re
 import sys
 
 TOP = os.path.dirname(os.path.dirname(os.path.abspath(__file__)))
-CAUSES = "crates/script_text/specs/Causes.antt"
-GOALS = "crates/script_text/specs/Goals.antt"
-WRONG_GOALS = "crates/script_text/src/goals.rt"
+TABLE = "crates/script_text/specs/Table.antt"
 NUMBERS = {
     "posts": "crates/flat_posts/src/post_kinds.rt",
     "goals": "crates/flat_posts/src/goal_kinds.rt",
@@ -21,7 +19,6 @@ NUMBERS = {
     "refusals": "crates/flat_posts/src/refusals.rt",
     "statuses": "crates/pathserve_c/src/statuses.rt",
 }
-FIELD = re.compile(r"wants key\.(\w+) (\([^()]*\)|\w+)|number key\.(\w+)")
 
 
 def read(name):
@@ -29,47 +26,42 @@ def read(name):
         return file.read()
 
 
-def said(text, name):
-    """What a definition of one clause says."""
-    return re.search(rf"^{name}\b[^=\n]* = (.*)$", text, re.MULTILINE)[1]
+def said(name, of):
+    """What the table says of each constructor of a type, by one clause for each."""
+    return dict(re.findall(rf"^{name}(?: \w+)* {of}\.(\w+) = (.*)$", read(TABLE), re.MULTILINE))
+
+
+def quoted(texts):
+    return {name: text.removeprefix('codes "').rstrip('"') for name, text in texts.items()}
 
 
 def key_texts():
     """The keys of lines as they stand there, by their names."""
-    return dict(re.findall(r'^key_text key\.(\w+) = codes "([^"]+)"$', read(CAUSES), re.MULTILINE))
+    return quoted(said("key_text", "key"))
 
 
-def fields_in(text):
-    """The keys and what stands under each, in their order."""
-    keys = key_texts()
-    found = [(name or number, wanted.strip("()") or "Whole 0 4294967295") for name, wanted, number in FIELD.findall(text)]
-    return {keys[name]: re.sub(r"(rules\.)?(callers|size|version|turn)\b", r"\2", wanted) for name, wanted in found}
+def wanted(text):
+    number = re.search(r"^obstruction_wanted = (.*)$", read(TABLE), re.MULTILINE)[1]
+    return re.sub(r"rules\.", "", text.replace("obstruction_wanted", number))
 
 
 def forms():
     """The keys of each form of a line, and what stands under each, in the newest version."""
-    text = read(CAUSES)
-    table = {}
-    for form, clause in re.findall(r"^fields_of rules turn form\.(\w+) = (.*)$", text, re.MULTILINE):
-        clause = clause.replace("map_fields", said(text, "map_fields"))
-        shape = re.search(r"add_fields rules\.version \((.*)\)", clause)
-        if shape:
-            clause = clause[: shape.start()] + said(text, "add_fields").replace(" shape ", f" {shape[1]} ")
-        table[form] = fields_in(clause)
-    return table
+    texts, under = key_texts(), said("wanted_of", "key")
+    keys = {form: re.findall(r"key\.(\w+)", clause) for form, clause in said("keys_by", "form").items()}
+    return {form: {texts[key]: wanted(under[key]) for key in names} for form, names in keys.items()}
 
 
 def first_versions():
     """The first version of the forms that not each version has."""
-    text = read(CAUSES)
-    return {form: int(version) for version, form in re.findall(r"nat_le (\d) version && has_keys .*? d then Some form\.(\w+)", text)}
+    version = re.search(r"^stands_in version f = stands_by \(nat_le (\d) version\) f$", read(TABLE), re.MULTILINE)[1]
+    return {form: int(version) for form in said("stands_by", "form")}
 
 
 def goals():
     """What stands under the key of each goal, by its name and its key."""
-    keys = dict(re.findall(r'^goal_key_text key\.(\w+) = codes "([^"]+)"$', read(GOALS), re.MULTILINE))
-    wanted = dict(re.findall(r"wrong\(Key::OfGoal\(GoalKey::(\w+)\), Wanted::(\w+)\)", read(WRONG_GOALS)))
-    return {name: (key, wanted[name]) for name, key in keys.items()}
+    under = said("goal_wanted", "goal")
+    return {name: (key, under[name]) for name, key in quoted(said("goal_key_text", "goal")).items()}
 
 
 def numbers(of):

@@ -12,13 +12,16 @@ import sys
 sys.path.insert(0, os.path.dirname(os.path.abspath(__file__)))
 import commands
 import specs
+from mapscript import check
 
 PAGE = "docs/PROVED.md"
 FIRST, LAST = "<!-- made by tools/reading_list.py: begin -->\n", "<!-- made by tools/reading_list.py: end -->\n"
 CORE = ("turn_core.specs.Turns", "IsOneThread")
+# A file with more definitions than this has several rows.
+NAMES_A_ROW = 40
 # The parts of the contract, in the order of reading: a heading, and the clauses that belong to it.
 PARTS = [
-    ("`replay`, `profile`, `flow` and `smooth`", ["replay", "stop"]),
+    (f"{', '.join(f'`{it}`' for it in check.WORDS[:-1])} and `{check.WORDS[-1]}`", ["replay", "stop"]),
     ("`serve`", ["serve", "serve_stop"]),
     ("`make`", ["make", "make_status", "make_unread"]),
     ("Words, faults and the cause of a bad line", None),
@@ -39,7 +42,7 @@ SKIPS = [
     ("script_text", ["canonical_reads_back"], "script_text.specs.ReadsBack", ["canon_script"],
      "the journal of `serve` reads back as the map and the turns that it was written from, where it is within the limits of an input"),
     ("script_text", ["line_causes", "true_causes", "strange_lines", "blank_lines", "deep_lines", "unread_lines", "end_causes"], "script_text.specs.Causes", ["cause", "end_cause"],
-     "a bad line has a cause and no other line has one, and what a cause says of a JSON value is true of it (`IsTrueOf`), and of another line's bytes (`IsTrueOfBytes`); of places in a script and versions these two alone tell"),
+     "exactly the bad lines have a cause, and what it says of a JSON value, or of another line's bytes, is true (`IsTrueOf`, `IsTrueOfBytes`); of places in a script and versions these two alone tell"),
     ("answer_text", ["waypoint_is_canonical"], "answer_text.specs.Answers", ["waypoint_text"],
      "a waypoint is the text of its cell's centre along both axes"),
     ("pathserve", ["beginning_is_prefix"], "pathserve.specs.Output", ["IsBeginning"],
@@ -94,9 +97,11 @@ def counted(found):
 def table(modules, found):
     rows = ["| crate | file | definitions | lines |", "|---|---|---|---|"]
     for module in in_order(modules, found):
-        here = [it for it in module.items.values() if it in found]
-        names = " ".join(f"`{it.name}`" for it in here)
-        rows.append(f"| `{module.crate}` | {link(module.file)} | {names} | {sum(len(it.lines) for it in here)} |")
+        here, head = [it for it in module.items.values() if it in found], f"`{module.crate}` | {link(module.file)}"
+        for at in range(0, len(here), NAMES_A_ROW):
+            part = here[at : at + NAMES_A_ROW]
+            rows.append(f"| {head} | {' '.join(f'`{it.name}`' for it in part)} | {lines_in(part)} |")
+            head = " | "
     return rows
 
 

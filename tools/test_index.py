@@ -16,7 +16,7 @@ import test_lines
 PAGE = "docs/TESTS.md"
 HEAD = """# The tests
 
-What each test says, crate by crate from the bottom up. Made by `tools/test_index.py`. `./try CRATE [WORD ..]` runs those of a crate, or those with a word in their names; [tests/README.md](../tests/README.md) says how they are built. What is proved of each crate stands in [PROVED.md](PROVED.md).
+For a contributor: what each test says, crate by crate from the bottom up. Made by `tools/test_index.py`. `./try CRATE [WORD ..]` runs those of a crate, or those with a word in their names; [tests/README.md](../tests/README.md) says how they are built. What is proved of each crate stands in [PROVED.md](PROVED.md).
 
 ## Tables of numbers
 

@@ -1,8 +1,10 @@
 """Answers line by line: where two texts of them differ first, and the digest of each turn (docs/FORMAT.md)."""
 import itertools
 
+from mapscript import check
+
 PRIME = 2**64 - 59
-NOTES = {b"opened": "profile", b"flow": "flow", b"smooth": "smooth"}  # lines behind a path, and the word that writes them
+NOTES = {note.encode(): word for word, note in check.NOTES.items()}  # lines behind a path, and the word that writes them
 
 
 class Difference:
@@ -38,6 +40,13 @@ def first_difference(lines, others):
     return None
 
 
+def digest_of(lines, value=0):
+    """The digest of lines, behind those that have this one."""
+    for line in lines:
+        value = (value << 8 * len(line) | int.from_bytes(line, "big")) % PRIME
+    return value
+
+
 def digests(lines, seen=lambda line: None):
     """The number and the digest of each turn of a text of answers. `seen` is told each line that is of no turn."""
     turn, value = None, 0
@@ -50,7 +59,7 @@ def digests(lines, seen=lambda line: None):
         if turn is None or line.startswith(b"bad "):
             seen(line)
         else:
-            value = (value << 8 * len(line) | int.from_bytes(line, "big")) % PRIME
+            value = digest_of([line], value)
     if turn is not None:
         yield turn, value
 

@@ -1,5 +1,5 @@
 /* Plays a match by the text of its script: by_text < skirmish.script. It writes what `pathserve replay` writes, turn by turn
- * also over a pipe, and ends with its status; after by_text profile, flow or smooth, what these words of the program write. */
+ * also over a pipe, and ends with its status; after by_text WORD, what another word of PATHSERVE_REPORT_WORDS writes. */
 #include <stdio.h>
 #include <string.h>
 #include <pathserve.h>
@@ -21,8 +21,8 @@ static void write_answers(pathserve_match *match) {
 }
 
 static uint32_t report_of(const char *word) {
-    static const char *const words[] = {"replay", "profile", "flow", "smooth"};
-    for (uint32_t report = PATHSERVE_PROFILE; report <= PATHSERVE_SMOOTH; report++) {
+    static const char *const words[] = {PATHSERVE_REPORT_WORDS};
+    for (uint32_t report = 0; report < sizeof words / sizeof *words; report++) {
         if (strcmp(word, words[report]) == 0) return report;
     }
     return PATHSERVE_REPLAY;

@@ -3,12 +3,11 @@
 use crate::fixtures::counted::Counted;
 use crate::fixtures::figures::goal_of;
 use crate::fixtures::maps::drawn;
+use crate::fixtures::rooms::Rooms;
 use crate::fixtures::texts::{fields_of, parsed_cell};
-use crate::fixtures::versions::{drawn_version, version_of};
 use fixed_point::{Fixed, is_on_axis};
 use goal_reach::{Target, made_reachable, nearest_passable};
 use goal_shapes::{Goal, check, contains, remoteness};
-use grid_versions::Version;
 use nav_types::{Areas, Cell, CellByCell, Class, FreeCells, Rect, View};
 use std::alloc::Global;
 
@@ -48,8 +47,8 @@ fn starts_at<V: FreeCells>(view: &V, point: Cell, start: Option<Cell>) -> Option
 fn starts_as_the_line_says(alloc: Global, line: &str) -> Option<bool> {
     let [map, point, start, ..] = fields_of(line);
     let point = parsed_cell(point)?;
-    let map = drawn_version(alloc, map)?;
-    starts_at(&map, point, parsed_cell(start))
+    let map = drawn(alloc, map)?;
+    starts_at(&CellByCell { view: &map }, point, parsed_cell(start))
 }
 
 #[test]
@@ -115,37 +114,12 @@ const ROOMS: [(Cell, &str, Option<Cell>); 4] = [
 ];
 
 /// The map of the two rooms.
-fn two_rooms(alloc: Global) -> Option<Version> {
-    let walls = [(rect(3, 0, 3, 2), 1), (rect(1, 1, 1, 1), 1)];
-    version_of(alloc, [5, 3], (1, "0"), &walls)
+fn two_rooms(alloc: Global) -> Option<Rooms> {
+    Rooms::among(alloc, [5, 3], &[rect(3, 0, 3, 2), rect(1, 1, 1, 1)])
 }
 
 #[test]
 fn a_goal_out_of_reach_has_a_near_cell(rt: HostRuntime) {
-    let Some(map) = two_rooms(rt.alloc()) else {
-        panic!(rt; "no map");
-    };
-    for (start, goal, near) in ROOMS {
-        assert!(rt; is_target(&map, start, goal, near) == Some(true), "{goal}");
-    }
-}
-
-/// Whether a line of `STARTS` says what the start cell is on a map that is a view alone, asked cell by cell.
-fn starts_cell_by_cell(alloc: Global, line: &str) -> Option<bool> {
-    let [map, point, start, ..] = fields_of(line);
-    let point = parsed_cell(point)?;
-    let map = drawn(alloc, map)?;
-    starts_at(&CellByCell { view: &map }, point, parsed_cell(start))
-}
-
-#[test]
-fn any_view_has_starts_and_targets(rt: HostRuntime) {
-    for line in STARTS.lines() {
-        assert!(rt;
-            starts_cell_by_cell(rt.alloc(), line) == Some(true),
-            "{line}"
-        );
-    }
     let Some(map) = two_rooms(rt.alloc()) else {
         panic!(rt; "no map");
     };
@@ -160,11 +134,12 @@ fn any_view_has_starts_and_targets(rt: HostRuntime) {
 
 #[test]
 fn a_blocked_start_looks_at_cells_near_by(rt: HostRuntime) {
-    let boulder = [(rect(1000, 1000, 1000, 1000), 1)];
-    let Some(map) = version_of(rt.alloc(), [2048, 2048], (1, "0"), &boulder) else {
+    let boulder = [rect(1000, 1000, 1000, 1000)];
+    let Some(map) = Rooms::among(rt.alloc(), [2048, 2048], &boulder) else {
         panic!(rt; "no map");
     };
-    let counted = Counted::new(&map);
+    let cells = CellByCell { view: &map };
+    let counted = Counted::new(&cells);
     let start = Some(Cell::new(1000, 999));
     assert!(rt; starts_at(&counted, Cell::new(2001, 2001), start) == Some(true));
     assert!(rt; counted.cells() < 1000);
@@ -173,8 +148,8 @@ fn a_blocked_start_looks_at_cells_near_by(rt: HostRuntime) {
 /// On a wide map of which a corner is blocked, 21 columns by 21 rows, goals in that corner and their near cells.
 #[test]
 fn a_goal_out_of_reach_looks_at_cells_near_by(rt: HostRuntime) {
-    let wall = [(rect(0, 0, 20, 20), 1)];
-    let Some(map) = version_of(rt.alloc(), [2048, 2048], (1, "0"), &wall) else {
+    let wall = [rect(0, 0, 20, 20)];
+    let Some(map) = Rooms::among(rt.alloc(), [2048, 2048], &wall) else {
         panic!(rt; "no map");
     };
     for (goal, near) in [
@@ -185,7 +160,8 @@ fn a_goal_out_of_reach_looks_at_cells_near_by(rt: HostRuntime) {
             Cell::new(21, 8),
         ),
     ] {
-        let counted = Counted::new(&map);
+        let cells = CellByCell { view: &map };
+        let counted = Counted::new(&cells);
         let start = Cell::new(60, 70);
         assert!(rt;
             is_target(&counted, start, goal, Some(near)) == Some(true),
@@ -198,11 +174,12 @@ fn a_goal_out_of_reach_looks_at_cells_near_by(rt: HostRuntime) {
 /// A goal in the middle of a blocked square of 601 by 601 navcells: a side of a ring is passed over by one question.
 #[test]
 fn blocked_cells_are_passed_over_at_once(rt: HostRuntime) {
-    let wall = [(rect(0, 0, 600, 600), 1)];
-    let Some(map) = version_of(rt.alloc(), [1024, 1024], (1, "0"), &wall) else {
+    let wall = [rect(0, 0, 600, 600)];
+    let Some(map) = Rooms::among(rt.alloc(), [1024, 1024], &wall) else {
         panic!(rt; "no map");
     };
-    let counted = Counted::new(&map);
+    let cells = CellByCell { view: &map };
+    let counted = Counted::new(&cells);
     let start = Cell::new(700, 700);
     let near = Some(Cell::new(601, 300));
     assert!(rt; is_target(&counted, start, "point 19693568 19693568", near) == Some(true));
@@ -233,17 +210,17 @@ fn plain_target<M: Areas>(map: &M, start: Cell, goal: &Goal) -> Option<Target> {
 
 /// How many starts of a map have another target of the goal of a text than a search over all cells finds, and how many
 /// have a near cell. None where the text is no sound goal.
-fn other_targets(map: &Version, goal: &str) -> Option<(u32, u32)> {
+fn other_targets(map: &Rooms, goal: &str) -> Option<(u32, u32)> {
     let size = map.size();
     let Ok(goal) = check(goal_of(goal)?, size) else {
         return None;
     };
-    let (mut others, mut near) = (0, 0);
+    let (cells, mut others, mut near) = (CellByCell { view: map }, 0, 0);
     for j in 0..size.h {
         for i in 0..size.w {
             let (class, start) = (Class::new(0), Cell::new(i, j));
             if map.passable(class, start) {
-                let target = made_reachable(map, class, start, &goal);
+                let target = made_reachable(&cells, class, start, &goal);
                 if plain_target(map, start, &goal) != Some(target) {
                     others += 1;
                 }
@@ -254,6 +231,11 @@ fn other_targets(map: &Version, goal: &str) -> Option<(u32, u32)> {
         }
     }
     Some((others, near))
+}
+
+/// The rooms of a map that is drawn.
+fn drawn_rooms(alloc: Global, text: &str) -> Option<Rooms> {
+    Rooms::of(alloc, drawn(alloc, text)?).ok()
 }
 
 /// Maps with rooms, gaps and cells that stand alone.
@@ -284,7 +266,7 @@ const INSIDE_OUT: [&str; 11] = [
 fn goals_inside_out_have_the_targets_of_a_plain_search(rt: HostRuntime) {
     let mut all_near = 0;
     for text in OPEN_AND_SHUT {
-        let Some(map) = drawn_version(rt.alloc(), text) else {
+        let Some(map) = drawn_rooms(rt.alloc(), text) else {
             panic!(rt; "no map: {text}");
         };
         for goal in INSIDE_OUT {
@@ -301,8 +283,8 @@ fn goals_inside_out_have_the_targets_of_a_plain_search(rt: HostRuntime) {
 /// A goal that holds a wide map has no cell there, and its near cell is found with a few questions for each row.
 #[test]
 fn a_goal_round_the_map_looks_at_the_ends_of_rows(rt: HostRuntime) {
-    let wall = [(rect(0, 0, 20, 20), 1)];
-    let Some(map) = version_of(rt.alloc(), [2048, 2048], (1, "0"), &wall) else {
+    let wall = [rect(0, 0, 20, 20)];
+    let Some(map) = Rooms::among(rt.alloc(), [2048, 2048], &wall) else {
         panic!(rt; "no map");
     };
     for (goal, near) in [
@@ -312,7 +294,8 @@ fn a_goal_round_the_map_looks_at_the_ends_of_rows(rt: HostRuntime) {
             Cell::new(21, 0),
         ),
     ] {
-        let counted = Counted::new(&map);
+        let cells = CellByCell { view: &map };
+        let counted = Counted::new(&cells);
         let start = Cell::new(60, 70);
         assert!(rt;
             is_target(&counted, start, goal, Some(near)) == Some(true),

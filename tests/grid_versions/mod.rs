@@ -426,21 +426,26 @@ fn tables_of(version: &Version, class: u8) -> usize {
     }
 }
 
-/// What the tables of class 0 say of the way between two cells of its column 0. None where it has no tables.
-fn bound_in(version: &Version, [from, to]: [u16; 2]) -> Option<u64> {
-    if version.classes() < 1 {
+/// What the tables of a class say of the way between two cells of the map's column 0. None where it has no tables.
+fn bound_in(version: &Version, class: u8, [from, to]: [u16; 2]) -> Option<u64> {
+    if class >= version.classes() {
         return None;
     }
-    let tables = version.landmarks(Class::new(0))?;
+    let tables = version.landmarks(Class::new(class))?;
     Some(tables.at_least(Cell::new(0, from), Cell::new(0, to)))
 }
 
-/// Notes a search of class 0 from the cell (0, 0) that opened so many jump states, and makes the edits.
-fn searched(version: &Version, alloc: Global, opened: u64, edits: &str) -> Option<Version> {
-    if version.classes() < 1 {
+/// Notes a search of a class from the cell (0, 0) that opened so many jump states, and makes the edits.
+fn searched(
+    version: &Version,
+    alloc: Global,
+    (class, opened): (u8, u64),
+    edits: &str,
+) -> Option<Version> {
+    if class >= version.classes() {
         return None;
     }
-    version.note_search(Class::new(0), Cell::new(0, 0), opened);
+    version.note_search(Class::new(class), Cell::new(0, 0), opened);
     let next = after(version, alloc, edits)?;
     Some(next.version)
 }
@@ -448,13 +453,13 @@ fn searched(version: &Version, alloc: Global, opened: u64, edits: &str) -> Optio
 /// A corridor that winds through 8 by 5 cells.
 const SNAKE: &str = "......../#######./......../.#######/........";
 
-// How many jump states searches open before the edits, and how many tables there are after these. A table on the snake
-// costs 23 jump states: a third of its cells, with a border of one cell. A class has at most eight.
+// How many jump states searches open before the edits, and how many tables there are after these. Three tables on the
+// snake cost 23 jump states: a third of its cells, with a border of one cell. A class has at most eight.
 const EARNINGS: [(u64, &str, usize); 6] = [
     (22, "", 0),
-    (1, "", 1),
-    (22, "", 1),
-    (24, "add 1 65535 unit 98304 32768 16384", 3),
+    (1, "", 3),
+    (22, "", 3),
+    (1, "add 1 65535 unit 98304 32768 16384", 6),
     (1_000_000, "remove 1", 8),
     (1_000_000, "", 8),
 ];
@@ -465,7 +470,7 @@ fn searches_earn_tables_of_landmarks(rt: HostRuntime) {
         panic!(rt; "no map");
     };
     for (opened, edits, wanted) in EARNINGS {
-        let Some(next) = searched(shared(&version), rt.alloc(), opened, edits) else {
+        let Some(next) = searched(shared(&version), rt.alloc(), (0, opened), edits) else {
             panic!(rt; "no version");
         };
         version = next;
@@ -476,7 +481,21 @@ fn searches_earn_tables_of_landmarks(rt: HostRuntime) {
     }
     // 18 straight steps along the corridor, each of twelve units.
     assert!(rt;
-        bound_in(&version, [0, 4]) == Some(18 * 12 * 5_451),
+        bound_in(&version, 0, [0, 4]) == Some(18 * 12 * 5_451),
         "the way round"
     );
+}
+
+#[test]
+fn tables_know_the_terrain_of_their_class(rt: HostRuntime) {
+    let Some(version) = drawn_for(rt.alloc(), SNAKE, (2, 1)) else {
+        panic!(rt; "no map");
+    };
+    // the corridor is open for class 1
+    let Some(next) = searched(&version, rt.alloc(), (1, 23), "") else {
+        panic!(rt; "no version");
+    };
+    let bound = bound_in(&next, 1, [0, 4]).unwrap_or(u64::MAX);
+    assert!(rt; tables_of(&next, 0) == 0 && tables_of(&next, 1) == 3);
+    assert!(rt; bound <= 4 * 12 * 5_451, "{bound}");
 }

@@ -9,7 +9,8 @@ use crate::fixtures::texts::fields_of;
 use class_planes::{PlaneRuns, Planes};
 use jump_scan::CellRuns;
 use jump_search::{
-    Ahead, Estimate, Guided, JumpSearch, Marked, Pool, Question, jump_search, jump_search_with,
+    Estimate, Guided, JumpSearch, Marked, Pool, Question, TargetEstimate, jump_search,
+    jump_search_with,
 };
 use landmarks::{Landmarks, MAX_TABLES};
 use nav_types::{Aim, Cell, Class, Dir, NoMemory, Size, Ticks, View, step};
@@ -206,7 +207,8 @@ fn asked_runs<Q: JumpSearch>(
 fn tables_of(alloc: Global, map: &Grid, near: Cell) -> Option<Landmarks> {
     let mut tables = Landmarks::none(alloc, map.size()).ok()?;
     for _ in 0..MAX_TABLES {
-        tables.add(alloc, map, Class::new(0), near).ok()?;
+        let rows = GridRows { grid: map };
+        tables.add(alloc, &rows, Class::new(0), near).ok()?;
     }
     Some(tables)
 }
@@ -249,7 +251,7 @@ fn asked_by_estimates(alloc: Global, pool: &mut Pool, line: &str) -> Option<[u32
         return None;
     }
     let tables = tables_of(alloc, &map, start)?;
-    let ahead = &Ahead::Past(marked(&tables, aim)?);
+    let ahead = &TargetEstimate::Past(marked(&tables, aim)?);
     let guided = Guided { question, ahead };
     let past = asked_runs(alloc, pool, &runs, &guided, &search)?;
     if pool.opened() > opened {

@@ -2,6 +2,7 @@
 
 use crate::fixtures::aims::Targets;
 use crate::fixtures::maps::drawn;
+use crate::fixtures::rows::GridRows;
 use landmarks::{Landmarks, MAX_TABLES};
 use nav_types::{Cell, Class, Rect, View};
 use navcell_grid::Grid;
@@ -23,7 +24,8 @@ const SNAKE: &str = "......../#######./......../.#######/........";
 fn tables_of(alloc: Global, map: &Grid, near: Cell, count: usize) -> Option<Landmarks> {
     let mut tables = Landmarks::none(alloc, map.size()).ok()?;
     for _ in 0..count {
-        tables.add(alloc, map, Class::new(0), near).ok()?;
+        let rows = GridRows { grid: map };
+        tables.add(alloc, &rows, Class::new(0), near).ok()?;
     }
     Some(tables)
 }
@@ -122,8 +124,9 @@ fn the_bound_knows_walls(rt: HostRuntime) {
 fn two_sides(alloc: Global) -> Option<(u64, u64, usize)> {
     let map = drawn(alloc, "....#....")?;
     let mut tables = Landmarks::none(alloc, map.size()).ok()?;
+    let rows = GridRows { grid: &map };
     for near in [Cell::new(1, 0), Cell::new(7, 0)] {
-        tables.add(alloc, &map, Class::new(0), near).ok()?;
+        tables.add(alloc, &rows, Class::new(0), near).ok()?;
     }
     let west = tables.at_least(Cell::new(0, 0), Cell::new(3, 0));
     let east = tables.at_least(Cell::new(8, 0), Cell::new(5, 0));
@@ -204,7 +207,8 @@ fn copied(alloc: Global) -> Option<[(usize, u64); 2]> {
     let west = tables_of(alloc, &map, Cell::new(1, 0), 1)?;
     let mut both = west.copy(alloc).ok()?;
     let (from, to) = (Cell::new(8, 0), Cell::new(5, 0));
-    both.add(alloc, &map, Class::new(0), to).ok()?;
+    let rows = GridRows { grid: &map };
+    both.add(alloc, &rows, Class::new(0), to).ok()?;
     Some([
         (west.made(), west.at_least(from, to)),
         (both.made(), both.at_least(from, to)),

@@ -4,7 +4,7 @@ use crate::fixtures::turns::{path_asked, point, row_version};
 use grid_versions::{Refusal, Version};
 use io_edges::{Gate, OpenGate};
 use nav_types::NoMemory;
-use path_workers::{Rooms, Workers};
+use path_workers::{PoolCache, Workers};
 use posts::push_some;
 use std::alloc::Global;
 use std::sync::atomic::{AtomicBool, AtomicU64, Ordering};
@@ -74,9 +74,9 @@ fn solve_seven<R: Threads + Sync>(
     if workers < 1 || workers > 64 || jobs.len() > 7 {
         return false;
     }
-    let mut rooms = Rooms::new(alloc);
+    let mut pool_cache = PoolCache::new(alloc);
     let workers = Workers::new(workers, &OpenGate);
-    match workers.run_noted(rt, alloc, version, jobs, Report::Answers, &mut rooms) {
+    match workers.run_noted(rt, alloc, version, jobs, Report::Answers, &mut pool_cache) {
         Ok(noted) => are_told(&noted.answers, &SEVEN),
         Err(NoMemory) => false,
     }
@@ -99,7 +99,7 @@ fn each_job_has_its_answer_by_any_number_of_workers(rt: HostRuntime) {
 fn opened_in(note: &Note) -> Option<u64> {
     match note {
         Note::Opened(opened) => Some(*opened),
-        Note::Nothing | Note::Flow(_) | Note::Smoothed(_) => None,
+        _ => None,
     }
 }
 
@@ -111,9 +111,9 @@ fn each_job_has_its_note(rt: HostRuntime) {
     let jobs = jobs_of(alloc, &SEVEN).expect(&rt, "the jobs");
     assert!(rt; jobs.len() <= 7);
     let report = Report::OpenedNumbers;
-    let mut rooms = Rooms::new(alloc);
+    let mut pool_cache = PoolCache::new(alloc);
     let workers = Workers::new(2, &OpenGate);
-    let Ok(noted) = workers.run_noted(&rt, alloc, &version, &jobs, report, &mut rooms) else {
+    let Ok(noted) = workers.run_noted(&rt, alloc, &version, &jobs, report, &mut pool_cache) else {
         panic!(rt; "the answers")
     };
     assert!(rt; are_told(&noted.answers, &SEVEN));
@@ -131,11 +131,12 @@ fn rooms_are_used_again(rt: HostRuntime) {
     let version = row_version(alloc, 5, &[]).expect(&rt, "the version");
     let jobs = jobs_of(alloc, &SEVEN).expect(&rt, "the jobs");
     assert!(rt; jobs.len() <= 7);
-    let mut rooms = Rooms::new(alloc);
+    let mut pool_cache = PoolCache::new(alloc);
     for count in [2, 3, 1] {
         let workers = Workers::new(count, &OpenGate);
         let report = Report::Answers;
-        let Ok(noted) = workers.run_noted(&rt, alloc, &version, &jobs, report, &mut rooms) else {
+        let Ok(noted) = workers.run_noted(&rt, alloc, &version, &jobs, report, &mut pool_cache)
+        else {
             panic!(rt; "the answers")
         };
         assert!(rt; are_told(&noted.answers, &SEVEN));
@@ -186,7 +187,14 @@ fn two_solve_four<R: Threads + Sync>(rt: &R, alloc: Global, gate: &HoldingGate) 
     }
     let workers = Workers::new(2, gate);
     let report = Report::Answers;
-    match workers.run_noted(rt, alloc, &version, &jobs, report, &mut Rooms::new(alloc)) {
+    match workers.run_noted(
+        rt,
+        alloc,
+        &version,
+        &jobs,
+        report,
+        &mut PoolCache::new(alloc),
+    ) {
         Ok(noted) => are_told(&noted.answers, &rows),
         Err(NoMemory) => false,
     }

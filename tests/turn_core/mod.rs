@@ -14,8 +14,8 @@ use posts::push_some;
 use std::alloc::Global;
 use std::test::*;
 use turn_core::{
-    Answer, Answerer, Copied, Jobs, Journal, OneThread, Post, Posts, ReadyTurn, RegionAnswer,
-    Reply, Report, Request, TurnPosts, TurnReplies, answer_turn, bare_version, one_thread, solve,
+    Answer, Answerer, Jobs, Journal, OneThread, Post, Posts, ReadyTurn, RegionAnswer, Reply,
+    Report, Request, TurnPosts, TurnReplies, answer_turn, bare_version, one_thread, solve,
 };
 
 /// The goal that is a circle about a point of the row, in halves.
@@ -84,11 +84,6 @@ fn are_replies_to_two(told: Option<&TurnReplies>) -> bool {
         && matches!(reply_to(told, 1), Some(Reply::Edit(EditReply::Added(1))))
 }
 
-/// Copies a value through its bound.
-fn copy_of<T: Copied>(alloc: Global, value: &T) -> Result<T, NoMemory> {
-    value.copy(alloc)
-}
-
 #[test]
 fn a_later_caller_blocks_the_path_of_a_turn(rt: HostRuntime) {
     let alloc = rt.alloc();
@@ -98,10 +93,6 @@ fn a_later_caller_blocks_the_path_of_a_turn(rt: HostRuntime) {
     let map = map_of(alloc, 3, 1, 2, &[]).expect(&rt, "the map");
     let all = one_thread(alloc, &map, &journal).expect(&rt, "the replies");
     assert!(rt; are_replies_to_two(all.get(0)));
-    // What holds memory is copied.
-    assert!(rt; copy_of(alloc, &journal).is_ok());
-    let copied = copy_of(alloc, shared(&all)).expect(&rt, "the copy");
-    assert!(rt; are_replies_to_two(copied.get(0)));
 }
 
 #[test]
@@ -112,7 +103,7 @@ fn answers_are_moved_into_the_replies_of_a_ready_turn(rt: HostRuntime) {
     let Ok(ready) = ReadyTurn::new(alloc, &version, turn) else {
         panic!(rt; "the ready turn")
     };
-    assert!(rt; copy_of(alloc, shared(ready.jobs())).is_ok());
+    assert!(rt; shared(ready.jobs()).copy(alloc).is_ok());
     let Ok(answers) = answers_to(alloc, ready.version(), ready.jobs()) else {
         panic!(rt; "the answers")
     };

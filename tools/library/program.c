@@ -1,5 +1,5 @@
-/* `pathserve replay|profile|flow|smooth [--workers N] < SCRIPT > ANSWERS` by the library, in one thread, for a platform that the
- * program is not made for. What it writes and its exit statuses are the program's (docs/FORMAT.md, "Words and statuses"), but
+/* `pathserve replay [--workers N] < SCRIPT > ANSWERS` by the library, and the other words of PATHSERVE_REPORT_WORDS, in one thread,
+ * for a platform that the program is not made for. What it writes and its exit statuses are the program's (docs/FORMAT.md, "Words and statuses"), but
  * it tells no cause of a bad line. On Windows it calls msvcrt.dll alone. */
 #include <pathserve.h>
 
@@ -23,7 +23,8 @@ static long put(int file, const void *bytes, size_t count) { return write(file, 
 enum { ANSWERS = 1, MESSAGES = 2, PIECE = 65536 };
 enum { WRONG_WORDS = 2, READING_FAILED = 4, WRITING_FAILED = 5 };
 
-static const char *const WORDS[] = {"replay", "profile", "flow", "smooth"}; /* each at its report's number */
+static const char *const WORDS[] = {PATHSERVE_REPORT_WORDS};
+enum { REPORTS = sizeof WORDS / sizeof *WORDS };
 
 /* Writes all bytes; 0 where that fails. */
 static int written(int file, const void *bytes, size_t count) {
@@ -91,7 +92,8 @@ static void say_number(uint32_t number) {
 static int said_usage(void) {
     const uint32_t numbers[] = {PATHSERVE_VERSION_MAJOR, PATHSERVE_VERSION_MINOR, PATHSERVE_VERSION_PATCH, PATHSERVE_ANSWERS};
     const char *const before[] = {"version ", ".", ".", ", answers "};
-    say("usage: pathserve replay|profile|flow|smooth [--workers N] < SCRIPT > ANSWERS\n");
+    for (int k = 0; k < REPORTS; k++) say(k ? "|" : "usage: pathserve "), say(WORDS[k]);
+    say(" [--workers N] < SCRIPT > ANSWERS\n");
     for (int k = 0; k < 4; k++) say(before[k]), say_number(numbers[k]);
     say("\n");
     return WRONG_WORDS;
@@ -99,7 +101,7 @@ static int said_usage(void) {
 
 static int program(int count, char **words) {
     int are_workers = count == 4 && is_same(words[2], "--workers") && is_workers(words[3]);
-    for (uint32_t report = 0; report < 4 && (count == 2 || are_workers); report++) {
+    for (uint32_t report = 0; report < REPORTS && (count == 2 || are_workers); report++) {
         if (is_same(words[1], WORDS[report])) return played(report);
     }
     return said_usage();

@@ -3,7 +3,7 @@ import subprocess
 
 import mapscript
 
-REPORTS = 4
+REPORTS = len(mapscript.check.WORDS)
 
 
 def scripts(count, seed=29):

@@ -8,9 +8,9 @@ import unittest
 
 from places import PROGRAM, TOP, needs_program, read
 
-BENCH = ["bench/beside_0ad.py", "bench/broken", "bench/hostile", "bench/load", "bench/measure.py", "bench/refused", "bench/times.py"]
+BENCH = ["bench/beside_0ad.py", "bench/broken", "bench/hostile", "bench/limits", "bench/load", "bench/measure.py", "bench/refused", "bench/times.py"]
 MAKERS = [f"tools/{it}.py" for it in ("crates", "decisions", "definitions", "format_tests", "forms", "gate_minutes", "layers", "library_module", "library_targets", "packages", "reading_list", "search_pictures", "speed_plots", "test_index", "theorems", "unproved_tests")]
-OTHERS = ["digests.py", "from_0ad.py", "from_movingai.py", "from_picture.py", "replays.py", "test_lines.py", "unproved_build.py", "view.py"]
+OTHERS = ["digests.py", "from_0ad.py", "from_movingai.py", "from_picture.py", "rename.py", "replays.py", "test_lines.py", "unproved_build.py", "view.py"]
 TOOLS = [f"tools/{it}" for it in OTHERS] + ["examples/check.py", "examples/client.py", "examples/two_callers.py", "examples/python/skirmish.py"]
 # commands that write, each with its words
 WRITERS = [
@@ -84,7 +84,8 @@ service.play(1, [{"caller": 0, "remove": "one"}, *[{"caller": 0, "remove": 1}] *
 """
         for count in ("10", "5000"):
             status, said, _ = run("-c", code, PROGRAM, count)
-            self.assertEqual((status, said.splitlines()[-1]), (1, "RuntimeError: bad line 2"))
+            # (the program says why too, before or after)
+            self.assertEqual((status, said.splitlines().count("RuntimeError: bad line 2")), (1, 1), said)
 
 
 if __name__ == "__main__":

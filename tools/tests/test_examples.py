@@ -28,7 +28,8 @@ class Examples(unittest.TestCase):
     @needs_program
     def test_a_client_under_each_word(self):
         plain, _, _ = tool("examples/client.py", PROGRAM)
-        for word, note in (("replay", None), ("profile", b"opened"), ("flow", b"flow"), ("smooth", b"smooth")):
+        for word in mapscript.check.WORDS:
+            note = mapscript.check.NOTES.get(word, "").encode() or None
             out, status, _ = tool("examples/client.py", PROGRAM, word)
             lines = out.splitlines()
             notes = [it.split()[:3] for it in lines if it.split()[2] == note]

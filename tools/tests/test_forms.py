@@ -56,7 +56,7 @@ def reads(line):
 class Table(unittest.TestCase):
     def test_it_is_whole(self):
         """Each form, key and goal of the crate is in the table."""
-        of_lines = re.search(r"pub enum Form \{(.*?)\}", read("crates/script_text/src/causes/line_forms.rt").decode(), re.DOTALL)[1]
+        of_lines = re.search(r"pub enum Form \{(.*?)\}", read("crates/script_text/src/table.rt").decode(), re.DOTALL)[1]
         self.assertEqual(re.findall(r"\w+", of_lines), list(forms.forms()))
         self.assertEqual({key for it in forms.forms().values() for key in it}, set(forms.key_texts().values()))
         of_goals = re.search(r"pub enum GoalKey \{(.*?)\}", read("crates/script_text/src/goals.rt").decode(), re.DOTALL)[1]

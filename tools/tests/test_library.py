@@ -59,6 +59,33 @@ unit 1,1 has 13.5 navcells to go, is there after 11 steps, at 10,3
 unit 4,4 has 9.2 navcells to go, is there after 8 steps, at 10,3
 unit 1,7 can't get there
 """
+# what examples/cpp/game_loop.cpp tells: s the soldiers of a group, c a scout, # a wall that a player builds
+LOOP = b"""\
+the scout goes by 1,7 25,8
+tick 20
+............................
+............................
+......c.....................
+............................
+............................
+.......s.s..................
+............................
+.......s.s..................
+............................
+............................
+the scout goes by 6,7 12,1 15,1 25,8
+tick 117
+.............###............
+.............###.........c..
+.............###............
+.............###............
+.............###............
+.............###............
+.............###............
+..............#.......s.....
+............................
+............................
+"""
 STRICT = ["-std=c11", "-Wall", "-Wextra", "-Werror", "-I", os.path.join(RELEASE, "include")]
 SANE = ["-g", "-fsanitize=address,undefined", "-fno-sanitize-recover=all"]
 
@@ -90,6 +117,20 @@ class Sources(unittest.TestCase):
         defined = [name for text in texts for name in re.findall(r'(?m)^pub extern "C" fn (\w+)\(', text)]
         declared = re.findall(r"(?m)^[a-z].*\b(pathserve_\w+)\(", read("include/pathserve.h").decode())
         self.assertEqual(sorted(defined), sorted(declared))
+
+    @needs_cc
+    def test_each_maker_of_the_header_fills_what_its_kind_uses(self):
+        with tempfile.TemporaryDirectory() as folder:
+            program = os.path.join(folder, "makers")
+            words = [CC, "-std=c11", "-Wall", "-Wextra", "-Werror", "-I", os.path.join(TOP, "include"), "-o", program]
+            subprocess.run([*words, os.path.join(TOP, "tools", "tests", "library", "makers.c")], check=True)
+            self.assertEqual(answers(program), (b"", 0))
+
+    def test_the_header_for_cpp_has_each_call(self):
+        declared = re.findall(r"(?m)^[a-z].*\b(pathserve_\w+)\(", read("include/pathserve.h").decode())
+        named = set(re.findall(r"\bpathserve_\w+", read("examples/cpp/pathserve.hpp").decode()))
+        # the compiler knows the sizes
+        self.assertEqual(set(declared) - named, {"pathserve_size_of"})
 
     def test_each_file_of_a_platform_is_named_by_what_makes_it(self):
         made = read("tools/library_targets.py").decode()
@@ -183,6 +224,18 @@ class Clients(unittest.TestCase):
         for archive in ARCHIVES:
             program = built(self.folder, "examples/c/fields.c", archive, SANE)
             self.assertEqual(answers(program), (FIELD, 0))
+
+    @unittest.skipUnless(shutil.which("c++"), "there is no C++ compiler")
+    def test_cpp(self):
+        strict = ["-Wall", "-Wextra", "-Werror", "-pedantic", *(f"-I{RELEASE}/{it}" for it in ("include", "examples/cpp"))]
+        program, script = os.path.join(self.folder, "cpp"), read("examples/skirmish.script")
+        for standard, archive in (("-std=c++17", ARCHIVES[0]), ("-std=c++20", ARCHIVES[-1])):
+            told = []
+            for source in ("examples/cpp/game_loop.cpp", "tools/tests/library/owners.cpp"):
+                words = ["c++", standard, *strict, *SANE, os.path.join(TOP, source), os.path.join(RELEASE, "lib", archive), "-o", program]
+                subprocess.run(words, check=True)
+                told.append(answers(program, script))
+            self.assertEqual(told, [(LOOP, 0), (read("examples/skirmish.answers"), 0)])
 
     def test_each_allocation_is_refused_in_turn(self):
         program = built(self.folder, "tools/tests/library/refused.c", "libpathserve_noheap.a", SANE)

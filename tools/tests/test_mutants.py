@@ -40,7 +40,11 @@ class Mutants(unittest.TestCase):
         listed = mutants.listed()
         self.assertEqual(len({mutant.name for mutant in listed}), len(listed))
         self.assertGreaterEqual(len(listed), 40)
-        self.assertEqual({mutant.crate for mutant in listed}, crates_of_the_program())
+        tried = {mutant.crate for mutant in listed}
+        self.assertLessEqual(crates_of_the_program(), tried)
+        # of the library's own crates those alone can be tried that have tests of their own
+        for crate in tried - crates_of_the_program():
+            self.assertTrue(os.path.isdir(os.path.join(TOP, "tests", crate)), crate)
 
 
 class Rows(unittest.TestCase):

@@ -17,6 +17,18 @@ def text_of(page):
     return read(page).decode()
 
 
+def too_long(text):
+    """The cells of more than 40 words and the paragraphs and items of more than 90, out of blocks of code, by their first words."""
+    found, plain = [], re.sub(r"(?ms)^```.*?^```$", "", text)
+    for block in re.split(r"\n\s*\n", plain):
+        lines = [it for it in block.splitlines() if not it.startswith("    ")]
+        cells = [cell for it in lines if it.startswith("|") for cell in it.strip("|").split("|")]
+        prose = "\n".join(it for it in lines if not it.startswith("|"))
+        items = re.split(r"(?m)^\s*(?:[-*]|\d+\.) ", prose)
+        found += [(len(it.split()), it.strip()[:60]) for limit, them in ((40, cells), (90, items)) for it in them if len(it.split()) > limit]
+    return found
+
+
 class Pages(unittest.TestCase):
     def test_those_made_by_scripts_are_current(self):
         for name in ("crates", "decisions", "definitions", "head_examples", "layers", "reading_list", "search_pictures", "speed_plots", "test_index", "theorems", "unused"):
@@ -31,6 +43,12 @@ class Pages(unittest.TestCase):
             for name in re.findall(r"`([\w./]+/[\w./]+\.(?:rt|antt|py|script|answers|map|md|sh))`", text_of(page)):
                 places = [name, f"crates/{name}", f"crates/*/{name}", f"crates/*/src/{name}", f"docs/{name}"]
                 self.assertTrue(any(glob.glob(os.path.join(TOP, it)) for it in places), f"{page}: {name}")
+
+    def test_paragraphs_and_cells_are_short(self):
+        self.assertEqual([len(too_long(it)) for it in ("word " * 90, "word " * 91, f"| {'word ' * 41}|", f"```\n{'word ' * 99}\n```")], [0, 1, 1, 0])
+        for page in PAGES:
+            self.assertEqual(too_long(text_of(page)), [], page)
+        self.assertLessEqual(len(text_of("README.md").split()), 900)
 
     def test_each_crate_is_named(self):
         for page in ("docs/PROVED.md", "docs/ARCHITECTURE.md"):

@@ -228,6 +228,15 @@ class Digests(unittest.TestCase):
         self.assertIn(out.decode().splitlines()[0], page)
         self.assertIn("".join(f"    {it}\n" for it in out.decode().splitlines()), read("docs/REPLAYS.md").decode())
 
+    def test_a_script(self):
+        script = read("examples/skirmish.script")
+        wanted = f"script {int.from_bytes(script, 'big') % (2**64 - 59):016x}\n".encode()
+        self.assertEqual(tool("tools/digests.py", "examples/skirmish.script")[:2], (wanted, 0))
+        with tempfile.NamedTemporaryFile() as file:
+            file.write(script + read("examples/skirmish.answers"))
+            file.flush()
+            self.assertEqual(tool("tools/digests.py", file.name)[:2], tool("tools/digests.py", "examples/skirmish.answers")[:2])
+
     def test_two_texts(self):
         self.assertEqual(tool("tools/digests.py", "examples/first.answers", "examples/first.answers")[:2], (b"", 0))
         other = read("examples/skirmish.answers").replace(b"0 0 moved 1", b"0 0 moved 2")

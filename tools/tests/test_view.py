@@ -46,9 +46,9 @@ class Contradictions(unittest.TestCase):
         maker = check.Maker(8)
         for _ in range(25):
             script = maker.script()
-            for profile in (False, True):
+            for word in check.WORDS:
                 if mapscript.Script(script).map:
-                    self.assertEqual(wrong(script, check.predicted(script, profile)[0]), [], script)
+                    self.assertEqual(wrong(script, check.predicted(script, word)[0]), [], script)
 
     def test_each_wrong_answer_is_found(self):
         script, right = read("examples/skirmish.script"), read("examples/skirmish.answers").decode()

@@ -212,14 +212,14 @@ module _ (passes : Cell → Bool) (cells : List Cell) (whole : HasAll passes cel
     halts_straight : (dir : Dir) (cell : Cell) → Decided (HaltsStraight passes hit dir cell)
     halts_straight dir cell = decided_either (decided_test (hit cell)) (decided_has_forced cell dir)
 
-    has_stop : (dir : Dir) (from : Cell) → Decided (HasStraightStop passes hit dir from)
-    has_stop dir from = decided_some (λ stop. IsStraightStop passes hit dir from stop)
+    has_jump_point : (dir : Dir) (from : Cell) → Decided (HasStraightStop passes hit dir from)
+    has_jump_point dir from = decided_some (λ stop. IsStraightStop passes hit dir from stop)
         (λ stop. decided_stop (HaltsStraight passes hit dir) (halts_straight dir) dir from stop) cells
         (λ stop is. whole stop (stop_passes (HaltsStraight passes hit dir) dir from stop is))
 
     halts_diagonal : (dir : Dir) (cell : Cell) → Decided (HaltsDiagonal passes hit dir cell)
     halts_diagonal dir cell = decided_either (decided_test (hit cell))
-        (decided_either (has_stop (row_part dir) cell) (has_stop (column_part dir) cell))
+        (decided_either (has_jump_point (row_part dir) cell) (has_jump_point (column_part dir) cell))
 
     decided_stop_of : (dir : Dir) (from stop : Cell) → Decided (IsStopOf passes hit dir from stop)
     decided_stop_of dir from stop = decided_either

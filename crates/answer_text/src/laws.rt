@@ -1,3 +1,4 @@
+//! Laws of written answers.
 ghost use Rattle.std.specs.Prelude.{◌≡◌, ◌++◌, ◌∷◌, ℕ, All, List};
 ghost use Rattle.nav_types.specs.declared.cells.Cell.{Cell};
 ghost use Rattle.fixed_point.specs.Raw.{centre_of};

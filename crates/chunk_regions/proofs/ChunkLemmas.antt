@@ -14,7 +14,7 @@ use Rattle.nav_types.specs.Numbering.{Numbering, columns, rows, number_of, place
 use Rattle.nav_types.specs.Regions.{passes_in, HasRegion}
 use Rattle.chunk_regions.specs.Labelling.{AreLabels}
 use Rattle.nav_types.specs.Rects.{chunk_rect}
-use Rattle.chunk_regions.specs.declared.flood.Place.{Place}
+use Rattle.chunk_regions.specs.declared.label_spans.Place.{Place}
 use Rattle.chunk_regions.specs.inner.Spans.{Runs, AreRuns, Holds, IsCut, region_at, region_of, number_by}
 use Rattle.chunk_regions.specs.inner.Joining.{IsNumbered}
 use Rattle.chunk_regions.proofs.SpanLemmas.{region_of-blocked}

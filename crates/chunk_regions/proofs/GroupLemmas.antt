@@ -11,7 +11,7 @@ use Rattle.nav_types.specs.declared.cells.Cell.{Cell}
 use Rattle.nav_types.specs.declared.cells.Chunk.{Chunk}
 use Rattle.nav_types.specs.Cells.{cell_at, IsBefore}
 use Rattle.nav_types.specs.Regions.{JoinedStraight}
-use Rattle.chunk_regions.specs.declared.flood.Place.{Place}
+use Rattle.chunk_regions.specs.declared.label_spans.Place.{Place}
 use Rattle.chunk_regions.specs.declared.spans.Span.{Span}
 use Rattle.chunk_regions.specs.inner.Spans.{Runs, AreSpans, IsPlace, HasCell, IsCut, region_of}
 use Rattle.chunk_regions.specs.inner.Joining.{Overlap, Reach, MeetsTo, AreUnited, KeepsOne, AreBounded, IsNumberAmong, AreGroups, IsNumbered, number_after}

@@ -11,7 +11,7 @@ use Rattle.nav_types.specs.declared.directions.Dir.TheVariants.{N, E, S, W, NE, 
 use Rattle.nav_types.specs.Cells.{cell_at, IsBefore}
 use Rattle.nav_types.specs.Directions.{is_straight, Leads}
 use Rattle.nav_types.specs.Regions.{JoinedStraight, IsBeside}
-use Rattle.chunk_regions.specs.declared.flood.Place.{Place}
+use Rattle.chunk_regions.specs.declared.label_spans.Place.{Place}
 use Rattle.chunk_regions.specs.declared.spans.Span.{Span}
 use Rattle.chunk_regions.specs.inner.Spans.{Runs, AreSpans, Holds, IsPlace, HasCell, IsCut, span_has, region_from, region_at, region_of}
 use Rattle.chunk_regions.specs.inner.Joining.{Overlap}

@@ -1,3 +1,4 @@
+//! The labels of a chunk: which region a cell is of, and where each region begins.
 ghost use Rattle.std.specs.Prelude.{ℕ, Bool, ◌≡◌, ◌≢◌, ◌+◌, ◌-◌, ◌*◌, ◌<◌, ◌≤◌, IsTrue, IfOk, IfSome, IfNone, Some, slice_get, slice_index, length};
 ghost use Rattle.nav_types.specs.declared.cells.Cell.{Cell};
 ghost use Rattle.nav_types.specs.declared.limits.TheConstants.{CHUNK_SIDE, CHUNK_CELLS};
@@ -6,7 +7,7 @@ ghost use Rattle.chunk_regions.specs.Labelling.{AreLabels, AreBitsOf, AreRowBits
 ghost use Rattle.chunk_regions.specs.inner.Spans.{AreSpans, Holds, region_at};
 
 use crate::bits::{ChunkBits, are_inside, read};
-use crate::flood::{Numbered, number_all};
+use crate::label_spans::{Numbered, number_all};
 use crate::spans::{RowSpans, cut, cut_anew};
 use nav_types::limits::CHUNK_SIDE;
 use nav_types::{Cell, Chunk, Class, NoMemory, Rect, Size, Ticks, View};

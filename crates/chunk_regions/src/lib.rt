@@ -13,7 +13,7 @@
 #![tactic(auto)]
 
 mod bits;
-mod flood;
+mod label_spans;
 mod labels;
 mod laws;
 mod spans;

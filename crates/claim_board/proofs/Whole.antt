@@ -1,4 +1,4 @@
--- The seat with the whole credit, once it has ended, has drawn the jobs, each once.
+-- The seat with the whole share, once it has ended, has drawn the jobs, each once.
 use Rattle.std.proofs.Common.{◌≡◌, ◌≢◌, ℕ, ◌<◌, true, ltb, List, get_or, sym, ap, ◌∙◌, subst, arith}
 use Rattle.std.proofs.lemmas.Bool.{lt-ltb, ltb-true, cond-true}
 use Rattle.std.proofs.lemmas.List.Elements.{All-contains, filter_passes}
@@ -7,18 +7,18 @@ use mathlib.Core.Option.{some}
 use lib.ListN.{get_elem?}
 use Rattle.atomic_table.specs.Table.{State, Final, Seen}
 use Rattle.nav_types.specs.Counting.{Lists}
-use Rattle.claim_board.specs.declared.rule.View.{View}
+use Rattle.claim_board.specs.declared.rule.SeatView.{SeatView}
 use Rattle.claim_board.specs.inner.ClaimWord.{times, once_below, jobs_among, KeepsBoard}
 use Rattle.claim_board.proofs.Totals.{total-alone}
 use Rattle.claim_board.proofs.Numbers.{once_below-le, contains-filter, apart}
 
-whole-list : (jobs id : ℕ) (v : View) (s : State (Unit {0}) View) → KeepsBoard jobs s → get_elem? s.views id ≡ some v → v.credit ≡ 64 → v.ended ≡ true → Lists (λ job. job < jobs) (jobs_among jobs v.drawn)
+whole-list : (jobs id : ℕ) (v : SeatView) (s : State (Unit {0}) SeatView) → KeepsBoard jobs s → get_elem? s.views id ≡ some v → v.share ≡ 64 → v.ended ≡ true → Lists (λ job. job < jobs) (jobs_among jobs v.drawn)
 whole-list jobs id v s h at all over =
     let word : ℕ = get_or s.words 0 0 in
     let f = h.fits id v at in
     let past : jobs < word = f.ended over in
     let alone : (n : ℕ) → times n v.drawn ≡ once_below n word = λ n.
-    sym (total-alone (λ u. times n u.drawn) s.views id v (λ place u there none. ap (times n) ((h.fits place u there).spent none)) at (h.credit ∙ sym all)) ∙ h.once n in record {
+    sym (total-alone (λ u. times n u.drawn) s.views id v (λ place u there none. ap (times n) ((h.fits place u there).spent none)) at (h.share ∙ sym all)) ∙ h.once n in record {
       each = λ n there. ltb-true n jobs (All-contains (λ m. ltb m jobs ≡ true) (jobs_among jobs v.drawn) n (filter_passes (λ m. ltb m jobs) v.drawn) there);
       all = λ n job.
           let one : once_below n word ≡ 1 = cond-true (ltb n word) 1 0 (lt-ltb n word (omega arith)) in
@@ -27,7 +27,7 @@ whole-list jobs id v s h at all over =
     }
 
 -- the same of the state that the table is left in
-pub closes : (jobs id : ℕ) (v : View) (words : List ℕ) (slots : List (Unit {0})) → Final (Seen (KeepsBoard jobs) id v) words slots → v.credit ≡ 64 → v.ended ≡ true → Lists (λ job. job < v.jobs) (jobs_among v.jobs v.drawn)
+pub closes : (jobs id : ℕ) (v : SeatView) (words : List ℕ) (slots : List (Unit {0})) → Final (Seen (KeepsBoard jobs) id v) words slots → v.share ≡ 64 → v.ended ≡ true → Lists (λ job. job < v.jobs) (jobs_among v.jobs v.drawn)
 closes jobs id v words slots last all over =
     let s = last.0 in
     let seen = last.1 in

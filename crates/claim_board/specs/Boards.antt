@@ -7,10 +7,10 @@ pub record Board : Type 0 where
   pub word : TableId
   pub jobs : ℕ
 
--- A seat of a board: its part of the board's credit, the jobs that it drew, in order, and whether it has ended, which
+-- A seat of a board: its share of the board, the jobs that it drew, in order, and whether it has ended, which
 -- is that it drew a number which is no job.
 pub record SeatState : Type 0 where
   pub board : Board
-  pub credit : ℕ
+  pub share : ℕ
   pub drawn : List ℕ
   pub ended : Bool

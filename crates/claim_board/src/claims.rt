@@ -1,22 +1,23 @@
+//! The board from which workers draw jobs, and the seats that may draw.
 ghost use Rattle.std.specs.Prelude.{◌≡◌, ◌+◌, ◌-◌, ◌/◌, ◌^◌, ◌<◌, ◌≤◌, ◌++◌, ◌∷◌, ◌||◌, [], true, false, IfOk, All};
 ghost use Rattle.nav_types.specs.Counting.{Lists};
 
-use crate::rule::{Draw, EachOnce, Halves, View};
+use crate::rule::{Draw, EachOnce, Halves, SeatView};
 use atomic_table::{Seat as Place, Table};
 use nav_types::NoMemory;
 use std::alloc::Global;
 use std::marker::Model;
 use std::snapshot::Snapshot;
 
-/// The credit of all seats of a board together. A seat has at least 1 of it, so a board has at most 64 seats at a time.
-pub const WHOLE_CREDIT: u64 = 64;
+/// The shares of all seats of a board together. A seat has at least 1, so a board has at most 64 seats at a time.
+pub const WHOLE_SHARE: u64 = 64;
 
 /// A board that hands out the jobs 0, 1, 2 and so on below their number, each once. Many threads may share it.
 /// Contracts see a `Board` of `specs/Boards.antt`: which board it is, and its number of jobs. The rule that its word
 /// keeps is `KeepsBoard` of `specs/inner/ClaimWord.antt`.
 #[derive(Drop)]
 pub struct Claims {
-    table: Table<(), View, u64, EachOnce, Global>,
+    table: Table<(), SeatView, u64, EachOnce, Global>,
     jobs: u64,
 }
 
@@ -32,11 +33,11 @@ impl Model for Claims {
 }
 
 /// The right to draw jobs of one board. It takes no bytes, and may go to another thread.
-/// Contracts see a `SeatState` of `specs/Boards.antt`: its board, its part of the credit, the jobs that it drew, in
+/// Contracts see a `SeatState` of `specs/Boards.antt`: its board, its share, the jobs that it drew, in
 /// order, and whether it has ended.
 #[derive(Drop)]
 pub struct Seat {
-    place: Place<(), View>,
+    place: Place<(), SeatView>,
 }
 
 impl Model for Seat {
@@ -48,7 +49,7 @@ impl Model for Seat {
 
     ghost view = { λ s. seat_state s.place.table_id s.place.me.0 };
 
-    ghost invariant = { λ s. (s.place.me.1 ≡ []) × (0 < s.place.me.0.credit) };
+    ghost invariant = { λ s. (s.place.me.1 ≡ []) × (0 < s.place.me.0.share) };
 }
 
 /// What a seat gets when it claims: a job, or that there is none left.
@@ -77,13 +78,13 @@ impl Model for Drawings {
 impl Claims {
     ghost use Rattle.claim_board.specs.Answers.{IfJob, IfEnded};
 
-    /// A board of so many jobs, fewer than 2^32, and its first seat, which has the whole credit, has drawn nothing and
+    /// A board of so many jobs, fewer than 2^32, and its first seat, which has the whole share, has drawn nothing and
     /// has not ended. `NoMemory` where there is none for the word. No other call takes memory.
     pub fn start(alloc: Global, jobs: u64) -> Result<(Claims, Seat), NoMemory>
         requires { jobs < 2 ^ 32 }
         ensures jobs { IfOk result (λ made. made.0.jobs ≡ jobs) }
         ensures board { IfOk result (λ made. made.1.board ≡ made.0) }
-        ensures credit { IfOk result (λ made. made.1.credit ≡ WHOLE_CREDIT) }
+        ensures share { IfOk result (λ made. made.1.share ≡ WHOLE_SHARE) }
         ensures list { IfOk result (λ made. made.1.drawn ≡ []) }
         ensures live { IfOk result (λ made. made.1.ended ≡ false) }
     {
@@ -98,13 +99,13 @@ impl Claims {
         self.jobs
     }
 
-    /// Halves the credit of a seat, which is at least 2. The first has the greater half of an odd credit, and the list;
+    /// Halves the share of a seat, which is at least 2. The first has the greater half of an odd share, and the list;
     /// the second has drawn nothing. Both have ended exactly where the seat had.
     pub fn split(&self, seat: Seat) -> (Seat, Seat)
         requires own { seat.board ≡ self.now }
-        requires credit { 2 ≤ seat.credit }
-        ensures first { result.0 ≡ record seat { credit = seat.credit - seat.credit / 2 } }
-        ensures second { result.1 ≡ record seat { credit = seat.credit / 2; drawn = [] } }
+        requires share { 2 ≤ seat.share }
+        ensures first { result.0 ≡ record seat { share = seat.share - seat.share / 2 } }
+        ensures second { result.1 ≡ record seat { share = seat.share / 2; drawn = [] } }
     {
         let Seat { mut place } = seat;
         let other = self.table.shared.split_seat::<Halves>(&mut place);
@@ -137,7 +138,7 @@ impl Claims {
         requires first { a.board ≡ self.now }
         requires second { b.board ≡ self.now }
         ensures board { result.board ≡ self.now }
-        ensures credit { result.credit ≡ a.credit + b.credit }
+        ensures share { result.share ≡ a.share + b.share }
         ensures list { result.drawn ≡ a.drawn ++ b.drawn }
         ensures ended { result.ended ≡ a.ended || b.ended }
     {
@@ -147,11 +148,11 @@ impl Claims {
         Seat { place }
     }
 
-    /// Takes back the whole credit, once a seat has ended. The list then has the numbers from 0 up to and without the
+    /// Takes back the whole share, once a seat has ended. The list then has the numbers from 0 up to and without the
     /// number of jobs, each once, and nothing else (`Lists` of `nav_types`).
     pub fn close(self, seat: Seat) -> Drawings
         requires own { seat.board ≡ self }
-        requires whole { seat.credit ≡ WHOLE_CREDIT }
+        requires whole { seat.share ≡ WHOLE_SHARE }
         requires ended { seat.ended ≡ true }
         ensures list { result ≡ seat.drawn }
         ensures all { Lists (λ job. job < self.jobs) result }

@@ -12,4 +12,4 @@
 mod claims;
 mod rule;
 
-pub use claims::{Claims, Drawings, Drawn, Seat, WHOLE_CREDIT};
+pub use claims::{Claims, Drawings, Drawn, Seat, WHOLE_SHARE};

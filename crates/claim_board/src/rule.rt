@@ -1,11 +1,11 @@
-// The rule of the claim word, and what its steps tell the seat that takes them.
+//! The rule that the word of a board keeps, and what a seat may do to it.
 use atomic_table::{Join, Play, Split, TableRule};
 use std::collections::LinkedList;
 
-// What a seat knows: its part of the credit, the number of jobs of the board, the numbers that it drew, in order, and
+// What a seat knows: its share, the number of jobs of the board, the numbers that it drew, in order, and
 // whether one of them was no job. No value of it is made.
-pub(crate) struct View {
-    pub credit: u64,
+pub(crate) struct SeatView {
+    pub share: u64,
     pub jobs: u64,
     pub drawn: LinkedList<u64>,
     pub ended: bool,
@@ -14,7 +14,7 @@ pub(crate) struct View {
 // The word is the next number to be drawn. The key is the number of jobs.
 pub(crate) struct EachOnce;
 
-impl TableRule<(), View, u64> for EachOnce {
+impl TableRule<(), SeatView, u64> for EachOnce {
     ghost use Rattle.claim_board.specs.inner.ClaimWord.{KeepsBoard, first_view};
 
     ghost holds = { KeepsBoard };
@@ -25,7 +25,7 @@ impl TableRule<(), View, u64> for EachOnce {
 // One number is drawn.
 pub(crate) struct Draw;
 
-impl Play<(), View> for Draw {
+impl Play<(), SeatView> for Draw {
     ghost use Rattle.claim_board.specs.inner.ClaimWord.{Draws};
 
     ghost then = { λ step before found after. Draws before found after };
@@ -34,7 +34,7 @@ impl Play<(), View> for Draw {
 // A view is cut in two, or two are put together.
 pub(crate) struct Halves;
 
-impl Split<View> for Halves {
+impl Split<SeatView> for Halves {
     ghost use Rattle.claim_board.specs.inner.ClaimWord.{first_half, second_half};
 
     ghost left = { first_half };
@@ -42,7 +42,7 @@ impl Split<View> for Halves {
     ghost right = { second_half };
 }
 
-impl Join<View> for Halves {
+impl Join<SeatView> for Halves {
     ghost use Rattle.claim_board.specs.inner.ClaimWord.{joined, spent_view};
 
     ghost both = { joined };

@@ -27,22 +27,22 @@ padded_bit free row rest n class i small long within outside full = ⊎_elim
     ∙ sym (ap bit_of (outside above)))
     (cases_lt i n)
 
--- a turned word has the other bits
+-- a transposed word has the other bits
 pub turned_bit : (words : List ℕ) (w k : ℕ) → get_or words w 0 < 2 ^ 64 → w < length words → k < 64
     → bit_at (get_or (map (bit_not w64) words) w 0) k ≡ 1 - bit_at (get_or words w 0) k
 turned_bit words w k fits within small =
     ap (λ n. bit_at n k) (get_or-map (bit_not w64) words w 0 0 within)
     ∙ bit_at_not w64 (get_or words w 0) k fits small
 
--- the words of a row whose bits are turned
+-- the words of a row whose bits are transposed
 pub words_bit : (row plane line : List ℕ) (class n i : ℕ) → length row ≡ 64 * n → i < length row → length plane ≡ n
     → ((w k : ℕ) → k < 64 → bit_at (get_or plane w 0) k ≡ bit_at (get_or row (64 * w + k) 0) class)
     → ((w k : ℕ) → w < length plane → k < 64 → bit_at (get_or line w 0) k ≡ 1 - bit_at (get_or plane w 0) k)
     → bit_at (get_or line (i / 64) 0) (i % 64) ≡ 1 - bit_at (get_or row i 0) class
-words_bit row plane line class n i long within wide bits turned =
+words_bit row plane line class n i long within wide bits transposed =
     let small : i % 64 < 64 = omega arith in
     let there : 64 * (i / 64) + i % 64 ≡ i = omega arith in
-    turned (i / 64) (i % 64) (omega (arith, wide)) small
+    transposed (i / 64) (i % 64) (omega (arith, wide)) small
     ∙ ap (λ b. 1 - b) (bits (i / 64) (i % 64) small ∙ ap (λ p. bit_at (get_or row p 0) class) there)
 
 pub other_bit : (free : Bool) → 1 - bit_of free ≡ one_if free
@@ -55,8 +55,8 @@ pub line_bits : (free : ℕ → Bool) (row line : List ℕ) (class i : ℕ) → 
     → (length row ≤ i → free i ≡ false)
     → (i < length row → bit_at (get_or line (i / 64) 0) (i % 64) ≡ 1 - bit_at (get_or row i 0) class)
     → bit_at (get_or line (i / 64) 0) (i % 64) ≡ one_if (free i)
-line_bits free row line class i long numbers outside turned = ⊎_elim
-    (λ (below : i < length row). turned below ∙ ap (λ b. 1 - b) (numbers below) ∙ other_bit (free i))
+line_bits free row line class i long numbers outside transposed = ⊎_elim
+    (λ (below : i < length row). transposed below ∙ ap (λ b. 1 - b) (numbers below) ∙ other_bit (free i))
     (λ (above : length row ≤ i).
     ap (λ n. bit_at n (i % 64)) (get_or_past line (i / 64) 0 (omega (arith, long, above)))
     ∙ bit_at-zero (i % 64) ∙ sym (ap one_if (outside above)))
@@ -80,9 +80,9 @@ pub joined_long : (row rest : List ℕ) (n i : ℕ) → length row ≡ n → n �
 joined_long row rest n i long short below = omega (arith, length-append row (drop n rest), length-drop n rest)
 
 -- a loop over all words
-pub all_turned : (words turned : List ℕ) (i : ℕ) → length words ≤ i
-    → turned ≡ map (bit_not w64) (take i words) ++ drop i words → turned ≡ map (bit_not w64) words
-all_turned words turned i past is =
+pub all_turned : (words transposed : List ℕ) (i : ℕ) → length words ≤ i
+    → transposed ≡ map (bit_not w64) (take i words) ++ drop i words → transposed ≡ map (bit_not w64) words
+all_turned words transposed i past is =
     is
     ∙ ap (λ rest. map (bit_not w64) (take i words) ++ rest) (drop_all i words past)
     ∙ append-nil (map (bit_not w64) (take i words))

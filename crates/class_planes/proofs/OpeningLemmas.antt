@@ -139,7 +139,7 @@ down_none left right from none n = elim (cases_lt from (suc n)) [
 one_not_none : (x : ℕ) → x ≡ 1 → x ≡ 0 → ⊥
 one_not_none x one none = omega (arith, one, none)
 
--- there is one first opening
+-- there is one first forced place
 pub same_first : (left right : ℕ → ℕ) (a b : ℕ) → OpensFirst left right a → OpensFirst left right b → a ≡ b
 same_first left right a b one two =
     let n : ℕ = one.opens.0 in

@@ -132,9 +132,9 @@ rows_alike table rows rects were are same n i within out =
 
 -- ---- columns and rows exchanged
 
-pub turned_outside : (rects turned : List Rect) (i j : ℕ) → turned ≡ map turned_rect rects
-    → IsOutside turned (cell_at j i) → IsOutside rects (cell_at i j)
-turned_outside rects turned i j is out k d below inside =
+pub turned_outside : (rects transposed : List Rect) (i j : ℕ) → transposed ≡ map turned_rect rects
+    → IsOutside transposed (cell_at j i) → IsOutside rects (cell_at i j)
+turned_outside rects transposed i j is out k d below inside =
     let other : Rect = turned_rect d in
     let all : IsOutside (map turned_rect rects) (cell_at j i) = subst (λ (rs : List Rect). IsOutside rs (cell_at j i)) is out in
     let at : get_or (map turned_rect rects) k other ≡ turned_rect (get_or rects k d) = get_or-map turned_rect rects k d other below in
@@ -142,28 +142,28 @@ turned_outside rects turned i j is out k d below inside =
     (subst (λ (r : Rect). IsInRect r (cell_at j i)) (sym at)
     (record { west = inside.south; east = inside.north; south = inside.west; north = inside.east }))
 
-pub turned_inside : (rects turned : List Rect) (count words : ℕ) → turned ≡ map turned_rect rects
+pub turned_inside : (rects transposed : List Rect) (count words : ℕ) → transposed ≡ map turned_rect rects
     → ((k : ℕ) (d : Rect) → k < length rects → IsRectOf count words (turned_rect (get_or rects k d)))
-    → All (IsRectOf count words) turned
-turned_inside rects turned count words is each =
+    → All (IsRectOf count words) transposed
+turned_inside rects transposed count words is each =
     subst (All (IsRectOf count words)) (sym is) (λ k d below.
     let there : k < length rects = omega (arith, below, length-map rects turned_rect) in
     let other : Rect = turned_rect d in
     subst (IsRectOf count words) (sym (get_or-map turned_rect rects k other d there)) (each k other there))
 
-pub rects_of_columns : (size : Size) (words : ℕ) (rects turned : List Rect) → words ≡ size.h / 64 + 1
-    → turned ≡ map turned_rect rects → All (IsRectInside size) rects → All (IsRectOf size.w words) turned
-rects_of_columns size words rects turned wide is inside =
-    turned_inside rects turned size.w words is
+pub rects_of_columns : (size : Size) (words : ℕ) (rects transposed : List Rect) → words ≡ size.h / 64 + 1
+    → transposed ≡ map turned_rect rects → All (IsRectInside size) rects → All (IsRectOf size.w words) transposed
+rects_of_columns size words rects transposed wide is inside =
+    turned_inside rects transposed size.w words is
     (λ k d below. turned_of size words (get_or rects k d) wide (inside k d below))
 
 -- and its columns
-pub columns_alike : (table : RowTable) (rows was columns : LineTable) (rects turned : List Rect)
-    → turned ≡ map turned_rect rects → AreColumns table was → AreColumns (record { size = table.size; rows = rows }) columns
+pub columns_alike : (table : RowTable) (rows was columns : LineTable) (rects transposed : List Rect)
+    → transposed ≡ map turned_rect rects → AreColumns table was → AreColumns (record { size = table.size; rows = rows }) columns
     → ((cell : Cell) → IsOutside rects cell
     → free_cell table cell ≡ free_cell (record { size = table.size; rows = rows }) cell)
-    → AreSameOutside table.size.w was columns turned
-columns_alike table rows was columns rects turned is were are same n i within out =
+    → AreSameOutside table.size.w was columns transposed
+columns_alike table rows was columns rects transposed is were are same n i within out =
     lines_same (λ i j. free_cell table (cell_at i j))
     (λ i j. free_cell (record { size = table.size; rows = rows }) (cell_at i j)) table.size.w (table.size.h / 64 + 1) n i
-    was columns were are within (same (cell_at n i) (turned_outside rects turned n i is out))
+    was columns were are within (same (cell_at n i) (turned_outside rects transposed n i is out))

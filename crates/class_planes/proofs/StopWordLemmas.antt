@@ -33,7 +33,7 @@ pub record IsWordUp (lanes : LaneWords) (stops : List ℕ) (w word : ℕ) : Type
       → bit_at word k ≡ stop_bit lanes (64 * w + k) (64 * w + k + 1) (bit_at word (k + 1))
   pub last : bit_at word 63 ≡ stop_bit lanes (64 * w + 63) (64 * w + 64) (bit_in stops (64 * w + 64))
 
--- the openings of the step from one place to the next
+-- the forced places of the step from one place to the next
 abbrev opens : LaneWords → ℕ → ℕ → ℕ
 opens lanes here next = max (opening (bit_in lanes.left here) (bit_in lanes.left next))
     (opening (bit_in lanes.right here) (bit_in lanes.right next))

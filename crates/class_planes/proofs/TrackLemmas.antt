@@ -56,13 +56,13 @@ opens_forced : (passes : Cell → Bool) (straight : Straight) (from : Cell) (mid
     → IsTrack passes straight from mid left right
     → IsSide passes straight from mid bits side → mid n ≡ 1 → mid (suc n) ≡ 1 → bits n ≡ 0 → bits (suc n) ≡ 1 → HasForced
     passes (cell_along straight from (suc n)) (straight_dir straight)
-opens_forced passes straight from mid left right bits side n track is here there shut open_now =
+opens_forced passes straight from mid left right bits side n line_set is here there shut open_now =
     let at : Cell = cell_along straight from (suc n) in
-    HasForced-from_side passes at (straight_dir straight) side (track.free (suc n) there) (
+    HasForced-from_side passes at (straight_dir straight) side (line_set.free (suc n) there) (
       (
         (straight_is straight.axis straight.way),
         λ before leads free.
-            let same = leads_from_same (straight_dir straight) before (cell_along straight from n) at leads (track.leads n there) in
+            let same = leads_from_same (straight_dir straight) before (cell_along straight from n) at leads (line_set.leads n there) in
             let set = is.set n here (subst (λ (c : Cell). IsFreeBeside passes c (aside_to side (straight_dir straight))) same free) in
             omega (arith, set, shut),
       ),
@@ -75,14 +75,14 @@ forced_opens : (passes : Cell → Bool) (straight : Straight) (from : Cell) (mid
     → IsForcing passes (cell_along straight from (suc n)) (straight_dir straight) side × IsFreeBeside passes (cell_along straight from (suc n))
     (aside_to side (straight_dir straight))
     → opening (bits n) (bits (suc n)) ≡ 1
-forced_opens passes straight from mid left right bits side n track is here there both =
+forced_opens passes straight from mid left right bits side n line_set is here there both =
     let now = is.set (suc n) there both.1 in
     let small = is.small n in
     elim (cases_lt (bits n) 1) [
       | inl low ↦ omega (arith, now, low)
       | inr high ↦
           let one : bits n ≡ 1 = omega (arith, high, small) in
-          absurd (both.0.1 (cell_along straight from n) (track.leads n there) (is.free n here one))
+          absurd (both.0.1 (cell_along straight from n) (line_set.leads n there) (is.free n here one))
     ]
 
 opening_small : (before bit : ℕ) → bit < 2 → opening before bit < 2
@@ -94,33 +94,33 @@ opening_parts before bit small is = (omega (arith, is, small), omega (arith, is,
 forced_from : (passes : Cell → Bool) (straight : Straight) (from : Cell) (mid left right : ℕ → ℕ) (n : ℕ)
     → IsTrack passes straight from mid left right
     → mid n ≡ 1 → mid (suc n) ≡ 1 → opens_after left right n ≡ 1 → HasForced passes (cell_along straight from (suc n)) (straight_dir straight)
-forced_from passes straight from mid left right n track here there is =
+forced_from passes straight from mid left right n line_set here there is =
     elim (set_in_either (opening (left n) (left (suc n))) (opening (right n) (right (suc n)))
-    (opening_small (left n) (left (suc n)) (track.at_one.small (suc n)))
-    (opening_small (right n) (right (suc n)) (track.at_two.small (suc n))) is) [
+    (opening_small (left n) (left (suc n)) (line_set.at_one.small (suc n)))
+    (opening_small (right n) (right (suc n)) (line_set.at_two.small (suc n))) is) [
       | inl one ↦
-          let parts = opening_parts (left n) (left (suc n)) (track.at_one.small (suc n)) one in
-          opens_forced passes straight from mid left right left track.one n track track.at_one here there parts.0 parts.1
+          let parts = opening_parts (left n) (left (suc n)) (line_set.at_one.small (suc n)) one in
+          opens_forced passes straight from mid left right left line_set.one n line_set line_set.at_one here there parts.0 parts.1
       | inr two ↦
-          let parts = opening_parts (right n) (right (suc n)) (track.at_two.small (suc n)) two in
-          opens_forced passes straight from mid left right right track.two n track track.at_two here there parts.0 parts.1
+          let parts = opening_parts (right n) (right (suc n)) (line_set.at_two.small (suc n)) two in
+          opens_forced passes straight from mid left right right line_set.two n line_set line_set.at_two here there parts.0 parts.1
     ]
 
 plain_from : (passes : Cell → Bool) (straight : Straight) (from : Cell) (mid left right : ℕ → ℕ) (n : ℕ)
     → IsTrack passes straight from mid left right
     → mid n ≡ 1 → mid (suc n) ≡ 1 → opens_after left right n ≡ 0 → HasForced passes (cell_along straight from (suc n)) (straight_dir straight) →
     ⊥
-plain_from passes straight from mid left right n track here there none forced =
+plain_from passes straight from mid left right n line_set here there none forced =
     let found = side_from_HasForced passes (cell_along straight from (suc n)) (straight_dir straight) forced in
     let Of = λ (side : Side). IsForcing passes (cell_along straight from (suc n)) (straight_dir straight) side × IsFreeBeside passes
     (cell_along straight from (suc n)) (aside_to side (straight_dir straight)) in
-    elim (track.all found.0) [
+    elim (line_set.all found.0) [
       | inl one ↦
-          let is = forced_opens passes straight from mid left right left track.one n track track.at_one here there
+          let is = forced_opens passes straight from mid left right left line_set.one n line_set line_set.at_one here there
           (subst Of one found.1) in
           omega (arith, is, none)
       | inr two ↦
-          let is = forced_opens passes straight from mid left right right track.two n track track.at_two here there
+          let is = forced_opens passes straight from mid left right right line_set.two n line_set line_set.at_two here there
           (subst Of two found.1) in
           omega (arith, is, none)
     ]
@@ -128,16 +128,16 @@ plain_from passes straight from mid left right n track here there none forced =
 pub far_runs : (passes : Cell → Bool) (straight : Straight) (from : Cell) (mid left right : ℕ → ℕ) (far : Far)
     → IsTrack passes straight from mid left right → HasRoom straight.way (place_on straight.axis from) far.count
     → GoesFar mid left right far → RunsFar passes straight from far
-far_runs passes straight from mid left right far track room goes = record {
-  start = track.start;
+far_runs passes straight from mid left right far line_set room goes = record {
+  start = line_set.start;
   room = room;
   steps = λ n within.
       let here = goes.free n (omega (arith, within)) in
       let there = goes.free (suc n) within in
       straight_step passes (straight_dir straight) (cell_along straight from n) (cell_along straight from (suc n)) (straight_is straight.axis straight.way)
-      (track.leads n there) (track.free n here) (track.free (suc n) there);
-  free = λ n within. track.free n (goes.free n within);
-  plain = λ n less. plain_from passes straight from mid left right n track (goes.free n (omega (arith, less)))
+      (line_set.leads n there) (line_set.free n here) (line_set.free (suc n) there);
+  free = λ n within. line_set.free n (goes.free n within);
+  plain = λ n less. plain_from passes straight from mid left right n line_set (goes.free n (omega (arith, less)))
       (goes.free (suc n) (omega (arith, less))) (goes.shut n less);
   forced = λ is.
       let opens = goes.opens is in
@@ -146,14 +146,14 @@ far_runs passes straight from mid left right far track room goes = record {
         n,
         (
           last,
-          forced_from passes straight from mid left right n track (goes.free n (omega (arith, last)))
+          forced_from passes straight from mid left right n line_set (goes.free n (omega (arith, last)))
               (goes.free (suc n) (omega (arith, last))) opens.1.1,
         ),
       );
-  last = λ is n same. plain_from passes straight from mid left right n track (goes.free n (omega (arith, same)))
+  last = λ is n same. plain_from passes straight from mid left right n line_set (goes.free n (omega (arith, same)))
       (goes.free (suc n) (omega (arith, same))) (goes.last is n same);
   ends = λ is next step.
-      let on = track.next far.count next step.leads step.next in
+      let on = line_set.next far.count next step.leads step.next in
       let off = goes.ends is in
       omega (arith, on, off);
 }
@@ -383,19 +383,19 @@ less_room Down from n count within room = omega (arith, within, room)
 
 opens_small : (passes : Cell → Bool) (straight : Straight) (from : Cell) (mid left right : ℕ → ℕ) (n : ℕ)
     → IsTrack passes straight from mid left right → opens_after left right n < 2
-opens_small passes straight from mid left right n track =
-    let one = opening_small (left n) (left (suc n)) (track.at_one.small (suc n)) in
-    let two = opening_small (right n) (right (suc n)) (track.at_two.small (suc n)) in
+opens_small passes straight from mid left right n line_set =
+    let one = opening_small (left n) (left (suc n)) (line_set.at_one.small (suc n)) in
+    let two = opening_small (right n) (right (suc n)) (line_set.at_two.small (suc n)) in
     omega (arith, one, two)
 
 opens_from : (passes : Cell → Bool) (straight : Straight) (from : Cell) (mid left right : ℕ → ℕ) (n : ℕ)
     → IsTrack passes straight from mid left right
     → mid n ≡ 1 → mid (suc n) ≡ 1 → HasForced passes (cell_along straight from (suc n)) (straight_dir straight)
     → opens_after left right n ≡ 1
-opens_from passes straight from mid left right n track here there forced =
-    let small = opens_small passes straight from mid left right n track in
+opens_from passes straight from mid left right n line_set here there forced =
+    let small = opens_small passes straight from mid left right n line_set in
     elim (cases_lt (opens_after left right n) 1) [
-      | inl low ↦ absurd (plain_from passes straight from mid left right n track here there (omega (arith, low)) forced)
+      | inl low ↦ absurd (plain_from passes straight from mid left right n line_set here there (omega (arith, low)) forced)
       | inr high ↦ omega (arith, high, small)
     ]
 
@@ -403,11 +403,11 @@ shut_from : (passes : Cell → Bool) (straight : Straight) (from : Cell) (mid le
     → IsTrack passes straight from mid left right
     → mid n ≡ 1 → mid (suc n) ≡ 1 → (HasForced passes (cell_along straight from (suc n)) (straight_dir straight) → ⊥)
     → opens_after left right n ≡ 0
-shut_from passes straight from mid left right n track here there plain =
-    let small = opens_small passes straight from mid left right n track in
+shut_from passes straight from mid left right n line_set here there plain =
+    let small = opens_small passes straight from mid left right n line_set in
     elim (cases_lt (opens_after left right n) 1) [
       | inl low ↦ omega (arith, low)
-      | inr high ↦ absurd (plain (forced_from passes straight from mid left right n track here there
+      | inr high ↦ absurd (plain (forced_from passes straight from mid left right n line_set here there
           (omega (arith, high, small))))
     ]
 
@@ -423,7 +423,7 @@ forced_first passes straight from lanes far are runs is =
     let mid : ℕ → ℕ = bits_along way lanes.mid first in
     let left : ℕ → ℕ = bits_along way lanes.left first in
     let right : ℕ → ℕ = bits_along way lanes.right first in
-    let track = track_of passes straight from lanes are in
+    let line_set = track_of passes straight from lanes are in
     let there = λ (n : ℕ) (within : n ≤ far.count).
     bit_there way lanes.mid first n (less_room way first n far.count within runs.room)
     ∙ are.mid (place_along way first n) ∙ flag_one (passes (cell_along straight from n)) (runs.free n within) in
@@ -435,10 +435,10 @@ forced_first passes straight from lanes far are runs is =
         m,
         (
           last,
-          opens_from passes straight from mid left right m track (there m (omega (arith, last)))
+          opens_from passes straight from mid left right m line_set (there m (omega (arith, last)))
               (there (suc m) (omega (arith, last))) end.1.1,
         ),
       );
-      shut = λ n less. shut_from passes straight from mid left right n track (there n (omega (arith, less)))
+      shut = λ n less. shut_from passes straight from mid left right n line_set (there n (omega (arith, less)))
           (there (suc n) (omega (arith, less))) (runs.plain n less);
     }

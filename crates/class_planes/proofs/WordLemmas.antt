@@ -200,7 +200,7 @@ ends_bit mid left right w k p lb rb r below is before_left before_right =
     ∙ ap₂ (λ a b. max (1 - a) b) (here mid)
     (ap₂ max (ap₂ opening before_left (here left)) (ap₂ opening before_right (here right)))
 
--- the bits of a word of openings, where the sides' bits of the cell before are known
+-- the bits of a word of forced places, where the sides' bits of the cell before are known
 pub sides_bit : (left right : List ℕ) (w k p lb rb r : ℕ) → k < 64
     → bit_at r k ≡ max (opening (bit_at lb k) (bit_at (get_or left w 0) k))
     (opening (bit_at rb k) (bit_at (get_or right w 0) k))

@@ -10,12 +10,12 @@ ghost use Rattle.class_planes.specs.inner.Runs.{AreLanesOf, TellsStop};
 ghost use Rattle.class_planes.specs.inner.Tracks.{IsTrackOf, line_count};
 
 use crate::free_places::{first_blocked, first_free};
+use crate::line_sets::LineSet;
 use crate::lines::Lines;
 use crate::read_cells::ReadRect;
 use crate::rows::lines_of;
-use crate::stops::turned;
-use crate::tracks::Track;
-use crate::turned::{columns_of, updated_columns};
+use crate::stops::transposed;
+use crate::transposed::{columns_of, updated_columns};
 use crate::updates::updated_lines;
 use crate::word_scans::Lanes;
 use nav_types::{Axis, Cell, Class, NoMemory, Rect, Rows, Size, Straight, line_on, place_on};
@@ -30,8 +30,8 @@ use std::marker::Model;
 /// the run has a stop for a side that opens.
 #[derive(Drop)]
 pub struct ClassPlane {
-    rows: Track,
-    columns: Track,
+    rows: LineSet,
+    columns: LineSet,
     size: Size,
 }
 
@@ -70,8 +70,8 @@ impl ClassPlane {
         ensures { IfOk result (λ plane. plane ≡ plane_of (record { size = size; rows = rows })) }
     {
         let columns = columns_of(alloc, &rows, size)?;
-        let row_track = Track::build(alloc, rows, size.h)?;
-        let column_track = Track::build(alloc, columns, size.w)?;
+        let row_track = LineSet::build(alloc, rows, size.h)?;
+        let column_track = LineSet::build(alloc, columns, size.w)?;
         Ok(ClassPlane {
             rows: row_track,
             columns: column_track,
@@ -104,7 +104,7 @@ impl ClassPlane {
         let rows = updated_lines(alloc, view, class, &self.rows.lines, reads, rects)?;
         let columns = updated_columns(alloc, &rows, size, &self.columns.lines, rects)?;
         let row_track = self.rows.renewed(alloc, rows, size.h, rects)?;
-        let across = turned(alloc, rects)?;
+        let across = transposed(alloc, rects)?;
         let column_track = self.columns.renewed(alloc, columns, size.w, &across)?;
         Ok(ClassPlane {
             rows: row_track,
@@ -168,7 +168,7 @@ impl ClassPlane {
 
     /// The lines along the axis.
     #[inline(always)]
-    fn track(&self, axis: Axis) -> &Track
+    fn line_set(&self, axis: Axis) -> &LineSet
         ensures { IsTrackOf (λ n k. is_passable self.now (cell_on axis n k)) (line_count axis self.now.size)
             (side_along axis self.now.size) result.now }
     {
@@ -196,7 +196,7 @@ impl ClassPlane {
         ensures words { length result.mid ≡ side_along axis self.now.size / 64 + 1 }
         ensures bits { AreLanesOf (λ n k. is_passable self.now (cell_on axis n k)) (line_on axis cell) result }
     {
-        self.track(axis)
+        self.line_set(axis)
             .lanes_at(self.line_count(axis), line_on(axis, cell))
     }
 
@@ -210,12 +210,12 @@ impl ClassPlane {
 
     /// Whether the straight run from the cell has a stop for a side that opens.
     #[inline(always)]
-    pub(crate) fn has_stop(&self, cell: Cell, straight: Straight) -> bool
+    pub(crate) fn has_jump_point(&self, cell: Cell, straight: Straight) -> bool
         requires { IsTrue (is_passable self.now cell) }
         ensures { TellsStop (is_passable self.now) straight cell result }
     {
         let axis = straight.axis;
-        self.track(axis)
-            .has_stop(straight.way, line_on(axis, cell), place_on(axis, cell))
+        self.line_set(axis)
+            .has_jump_point(straight.way, line_on(axis, cell), place_on(axis, cell))
     }
 }

@@ -1,4 +1,4 @@
-//! Set bits of a word that are spread over the free places beside them.
+//! Occluded fills, as bitboards have them: set bits of a word that are spread over the free places beside them.
 ghost use Rattle.std.specs.Prelude.{◌≡◌, ◌<◌, ◌+◌, ℕ, max, min};
 ghost use Rattle.std.specs.Int.{bit_at};
 

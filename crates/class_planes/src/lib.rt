@@ -8,6 +8,13 @@
 //! A scan passes 64 cells at once, and a straight run whose flag is not set is never scanned. Both tables are in bands of
 //! 32 lines; after an edit [`ClassPlane`] makes those anew that changed and shares the others. [`PlaneRuns`] is the view
 //! and the runs that a search asks, and [`Planes`] has one plane for each class.
+//!
+//! ```text
+//!    planes                 class_plane, plane_sets, lines, line_sets, rows, transposed
+//!    jump flags             jump_flags, stops, flag_words, fills, forced_places
+//!    runs                   plane_runs, plane_scans, word_scans, beside_cells, free_places
+//!    what an edit changes   changed_parts, read_cells, updates, band_spans, joined_rects, tight_rects
+//! ```
 #![tactic(auto)]
 
 mod band_spans;
@@ -15,21 +22,21 @@ mod beside_cells;
 mod changed_parts;
 mod class_plane;
 mod fills;
+mod flag_words;
+mod forced_places;
 mod free_places;
 mod joined_rects;
+mod jump_flags;
+mod line_sets;
 mod lines;
-mod openings;
 mod plane_runs;
 mod plane_scans;
 mod plane_sets;
 mod read_cells;
 mod rows;
-mod stop_table;
-mod stop_words;
 mod stops;
 mod tight_rects;
-mod tracks;
-mod turned;
+mod transposed;
 mod updates;
 mod word_scans;
 

@@ -13,7 +13,7 @@ ghost use Rattle.class_planes.specs.Planes.{AreFreeBits, is_passable};
 ghost use Rattle.class_planes.specs.inner.Runs.{Far, bit_in, cell_along, place_along, RunsFar, IsFirstHit, HasRoom, HoldsSteps};
 
 use crate::class_plane::ClassPlane;
-use crate::openings::first_opening;
+use crate::forced_places::first_opening;
 use crate::word_scans::{Reach, is_set};
 use nav_types::{Aim, Axis, Cell, Diagonal, Dir, Rect, Size, Straight, Way, place_on};
 use std::marker::Model;
@@ -268,7 +268,7 @@ fn scanned_steps<A: Aim>(
 }
 
 /// The cell at which a side opens for the straight run from the cell. It is sought only where there is one, and then the
-/// first opening along the run is there.
+/// first forced place along the run is there.
 #[inline(always)]
 fn forced_stop(plane: &ClassPlane, from: Cell, straight: Straight) -> Option<Cell>
     requires start { IsTrue (is_passable plane.now from) }
@@ -276,7 +276,7 @@ fn forced_stop(plane: &ClassPlane, from: Cell, straight: Straight) -> Option<Cel
         × (IsTrue far.forced × (cell ≡ cell_along straight from far.count)))) }
     ensures none { IfNone result ((far : Far) × (RunsFar (is_passable plane.now) straight from far × IsFalse far.forced)) }
 {
-    if !plane.has_stop(from, straight) {
+    if !plane.has_jump_point(from, straight) {
         return None;
     }
     let Some(steps) = steps_to_opening(plane, from, straight) else {
@@ -325,7 +325,7 @@ fn has_straight_stop<A: Aim>(
     ensures { IsTrue result ↔ HasStraightStop (is_passable plane.now) (A.hit aim.now plane.now.size) (straight_dir straight) cell }
 {
     if !meets(rect, cell, straight.axis) {
-        return plane.has_stop(cell, straight);
+        return plane.has_jump_point(cell, straight);
     }
     has_scanned_stop(plane, cell, straight, rect, aim)
 }
@@ -474,7 +474,7 @@ fn halts_diagonal<A: Aim>(
     if meets(rect, cell, along_row.axis) || meets(rect, cell, along_column.axis) {
         return halts_by_aim(plane, cell, diagonal, rect, aim);
     }
-    plane.has_stop(cell, along_row) || plane.has_stop(cell, along_column)
+    plane.has_jump_point(cell, along_row) || plane.has_jump_point(cell, along_column)
 }
 
 /// The stop of the diagonal run from the cell, where the aim has the rectangle. It is small, so that a caller gets code of

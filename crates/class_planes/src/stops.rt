@@ -4,10 +4,10 @@ ghost use Rattle.nav_types.specs.declared.straights.Way.TheVariants as Way;
 ghost use Rattle.class_planes.specs.inner.StopLines.{IsBandStop, IsStopBit, AreAlike, AreMapLines, AreSameOutside, AreBandStops, AreStopsWhere, AreStops, AreStopsBefore, IsFarFrom, IsInTouchedWord, IsRectOf, lanes_of, line_before, turned_rect};
 
 use crate::band_spans::bands_about;
+use crate::flag_words::{renew_down, renew_up};
 use crate::joined_rects::joined;
+use crate::jump_flags::{JumpFlags, blank_stops, share_stops};
 use crate::lines::{BAND, Lines, copied, is_inner};
-use crate::stop_table::{StopTable, blank_stops, share_stops};
-use crate::stop_words::{renew_down, renew_up};
 use crate::tight_rects::tight_rects;
 use crate::word_scans::Lanes;
 use nav_types::{Axis, NoMemory, Rect, Way};
@@ -21,7 +21,7 @@ struct MapLines<'a> {
 }
 
 /// The stops of the runs along the first `count` lines.
-pub fn stops_of(alloc: Global, lines: &Lines, count: u16) -> Result<StopTable, NoMemory>
+pub fn stops_of(alloc: Global, lines: &Lines, count: u16) -> Result<JumpFlags, NoMemory>
     requires { AreMapLines count lines.now }
     ensures up { IfOk result (λ stops. AreStops Way.Up count lines.now stops.up) }
     ensures down { IfOk result (λ stops. AreStops Way.Down count lines.now stops.down) }
@@ -45,9 +45,9 @@ pub fn updated_stops(
     before: &Lines,
     lines: &Lines,
     count: u16,
-    old: &StopTable,
+    old: &JumpFlags,
     rects: &[Rect],
-) -> Result<StopTable, NoMemory>
+) -> Result<JumpFlags, NoMemory>
     requires alike { AreAlike count before.now lines.now }
     requires inside { All (IsRectOf count lines.now.words) rects.now }
     requires same { AreSameOutside count before.now lines.now rects.now }
@@ -66,9 +66,9 @@ pub fn updated_stops(
 fn renewed_stops(
     alloc: Global,
     map: &MapLines<'_>,
-    before: &StopTable,
+    before: &JumpFlags,
     rects: &[Rect],
-) -> Result<StopTable, NoMemory>
+) -> Result<JumpFlags, NoMemory>
     requires lines { AreMapLines map.now.count map.now.lines.now }
     requires inside { All (IsRectOf map.now.count map.now.lines.now.words) rects.now }
     requires up { AreStopsBefore Way.Up rects.now map.now.count map.now.lines.now before.now.up }
@@ -78,7 +78,7 @@ fn renewed_stops(
 {
     let bands = map.count / BAND + 1;
     let near = bands_about(rects, Axis::Row, bands);
-    let mut stops = StopTable::with_capacity(alloc, usize::from(bands), map.lines.words())?;
+    let mut stops = JumpFlags::with_capacity(alloc, usize::from(bands), map.lines.words())?;
     share_stops(before, 0, near.from, &mut stops)?;
     for band in near.from..near.to {
         push_band(alloc, map, before, rects, band, &mut stops)?;
@@ -91,10 +91,10 @@ fn renewed_stops(
 fn push_band(
     alloc: Global,
     map: &MapLines<'_>,
-    before: &StopTable,
+    before: &JumpFlags,
     rects: &[Rect],
     band: u16,
-    stops: &mut StopTable,
+    stops: &mut JumpFlags,
 ) -> Result<(), NoMemory>
     requires lines { AreMapLines map.now.count map.now.lines.now }
     requires inside { All (IsRectOf map.now.count map.now.lines.now.words) rects.now }
@@ -257,7 +257,7 @@ fn line_before(count: u16, n: u16) -> u16
 }
 
 /// The rectangles with columns and rows exchanged.
-pub fn turned(alloc: Global, rects: &[Rect]) -> Result<Vec<Rect>, NoMemory>
+pub fn transposed(alloc: Global, rects: &[Rect]) -> Result<Vec<Rect>, NoMemory>
     ensures { IfOk result (λ others. others.items ≡ map turned_rect rects.now) }
 {
     let mut others = Vec::with_capacity(alloc, rects.len())?;

@@ -129,7 +129,7 @@ pub fn bits_before(word: u64, k: u16) -> u64
 }
 
 /// The places where a side is free that was not before.
-pub fn openings(left: u64, left_before: u64, right: u64, right_before: u64) -> u64
+pub fn forced_places(left: u64, left_before: u64, right: u64, right_before: u64) -> u64
     ensures { (k : ℕ) → k < 64 → bit_at result k
         ≡ max (opening (bit_at left_before k) (bit_at left k)) (opening (bit_at right_before k) (bit_at right k)) }
 {
@@ -141,7 +141,7 @@ fn halting(mid: u64, left: u64, left_before: u64, right: u64, right_before: u64)
     ensures { (k : ℕ) → k < 64 → bit_at result k ≡ max (1 - bit_at mid k)
         (max (opening (bit_at left_before k) (bit_at left k)) (opening (bit_at right_before k) (bit_at right k))) }
 {
-    !mid | openings(left, left_before, right, right_before)
+    !mid | forced_places(left, left_before, right, right_before)
 }
 
 impl<'a> Lanes<'a> {

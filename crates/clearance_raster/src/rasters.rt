@@ -1,3 +1,4 @@
+//! Setting the bits of the cells that an obstruction blocks, for all classes at once.
 ghost use Rattle.std.specs.Prelude.{◌≡◌, ◌≤◌, ◌<◌, ◌==◌, ◌&&◌, ℕ, max, IsTrue};
 ghost use Rattle.std.specs.Int.{bit_at};
 ghost use Rattle.nav_types.specs.declared.cells.Cell.{Cell};

@@ -1,3 +1,4 @@
+//! Laws of numbers as text.
 ghost use Rattle.std.specs.Prelude.{◌≡◌, ℤ, Some, FitsSigned, IsTrue};
 ghost use Rattle.std.specs.Int.{w32};
 ghost use Rattle.fixed_point.specs.Text.{fixed_value, fixed_text, is_fixed_text, unsigned_text, decimals, WritesExactly, EndsInNoZero};

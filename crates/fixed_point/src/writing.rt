@@ -1,3 +1,4 @@
+//! Writing a number as its shortest exact decimal.
 ghost use Rattle.std.specs.Prelude.{◌≡◌, ℕ, ◌+◌, ◌<◌, ◌≤◌, List, [], ◌∷◌, ◌++◌, length, take, decimal, if◌then◌else◌};
 ghost use Rattle.fixed_point.specs.Text.{fixed_text, fraction_digits, fraction_text};
 

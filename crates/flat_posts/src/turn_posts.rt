@@ -62,7 +62,7 @@ pub fn turn_of(alloc: Global, callers: usize, entries: &[(u8, Post)]) -> Result<
 {
     let mut lists = empty_lists(alloc, callers)?;
     for entry in entries {
-        push_post(&mut lists, usize::from(entry.0), entry.1.copy())?;
+        push_post(&mut lists, usize::from(entry.0), entry.1)?;
     }
     Ok(Sequence::from(lists))
 }

@@ -11,7 +11,7 @@ use Rattle.nav_types.specs.Cells.{IsInside, IsInRect, cell_at}
 use Rattle.nav_types.specs.Walks.{Joined}
 use Rattle.nav_types.proofs.CellOrder.{same_cell, before_next}
 use Rattle.nav_types.proofs.Items.{Contains-none}
-use Rattle.flow_field.specs.declared.spreading.Spread.{Spread}
+use Rattle.flow_field.specs.declared.spreading.FieldSpread.{FieldSpread}
 use Rattle.flow_field.specs.inner.Marks.{free, spot_of, mark_of, IsRunCleared, IsFreeSpot, IsCleared, IsFilled, IsSound, IsSpreading, Waits, NoStep}
 use Rattle.flow_field.specs.inner.Spreads.{WaitsIn, IsLowered, FoundBefore, FoundTo}
 use Rattle.flow_field.proofs.Spots.{spot_of-lt, spot_of-low, spot_of-inj, row_more as place_more}
@@ -153,7 +153,7 @@ spreading_as passes hit start size Found More marks Waiting turn spreads = recor
 }
 
 -- nothing is reached yet
-pub spreading_none : (passes hit : Cell → Bool) (start : Cell) (size : Size) (Found : Cell → Type 0) (spread : Spread) → ((cell : Cell) → IsTrue (passes cell) → IsInside size cell)
+pub spreading_none : (passes hit : Cell → Bool) (start : Cell) (size : Size) (Found : Cell → Type 0) (spread : FieldSpread) → ((cell : Cell) → IsTrue (passes cell) → IsInside size cell)
     → ((target : Cell) → Found target → ⊥) → spread.straight ≡ [] → spread.diagonal ≡ [] → IsFilled passes size spread.marks.items
     → IsSpreading passes hit start size Found NoStep spread.marks.items (WaitsIn spread)
 spreading_none passes hit start size Found spread inside none straight diagonal filled =
@@ -178,7 +178,7 @@ spreading_none passes hit start size Found spread inside none straight diagonal 
       settled = λ cell dir passable below. absurd (omega (arith, known cell passable, below));
     }
 
-pub found_target : (passes hit : Cell → Bool) (start : Cell) (size : Size) (rect : Rect) (cell : Cell) (at : ℕ) (old new : Spread) → IsTrue (passes cell) → IsTrue (hit cell) → Joined passes start cell → at ≡ spot_of size cell
+pub found_target : (passes hit : Cell → Bool) (start : Cell) (size : Size) (rect : Rect) (cell : Cell) (at : ℕ) (old new : FieldSpread) → IsTrue (passes cell) → IsTrue (hit cell) → Joined passes start cell → at ≡ spot_of size cell
     → IsLowered at at at 1 old new → IsSpreading passes hit start size (FoundBefore rect cell) NoStep old.marks.items (WaitsIn old)
     → IsSpreading passes hit start size (FoundTo rect cell) NoStep new.marks.items (WaitsIn new)
 found_target passes hit start size rect cell at old new passable is_hit joined is (inl (pair, falls)) spreads =

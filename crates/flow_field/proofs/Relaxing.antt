@@ -12,7 +12,7 @@ use Rattle.nav_types.specs.Directions.{step_cost, opposite, row_part, column_par
 use Rattle.nav_types.specs.Walks.{Step}
 use Rattle.nav_types.proofs.Walking.{IsWalk-push, Step-opposite, step_cost_most, step_cost_some, free_is_legal, legal_is_free}
 use Rattle.walks.specs.Chosen.{preference}
-use Rattle.flow_field.specs.declared.spreading.Spread.{Spread}
+use Rattle.flow_field.specs.declared.spreading.FieldSpread.{FieldSpread}
 use Rattle.flow_field.specs.inner.Marks.{free, spot_of, mark_of, IsBesideSpot, IsSound, IsSettledAlong, IsSpreading, Waits, Every}
 use Rattle.flow_field.specs.inner.Spreads.{WaitsIn, weight, IsLowered, rank, StepsFrom, Relaxes, RelaxesAll, IsInner}
 use Rattle.flow_field.proofs.Spots.{spot_of-lt, leads_beside, beside_leads, beside_same}
@@ -141,7 +141,7 @@ fall_of passes hit start size here next dir at to row column mark marks from sou
       ];
     }
 
-pub relax_step : (passes hit : Cell → Bool) (start : Cell) (size : Size) (here : Cell) (dir : Dir) (at to row column mark : ℕ) (old new : Spread)
+pub relax_step : (passes hit : Cell → Bool) (start : Cell) (size : Size) (here : Cell) (dir : Dir) (at to row column mark : ℕ) (old new : FieldSpread)
     → IsStepFrom passes hit start size here dir at to row column mark old.marks.items → IsLowered to row column mark old new
     → IsSpreading passes hit start size Every (StepsFrom here (rank dir)) old.marks.items (WaitsIn old)
     → IsSpreading passes hit start size Every (StepsFrom here (rank dir + 1)) new.marks.items (WaitsIn new)
@@ -187,12 +187,12 @@ relax_step passes hit start size here dir at to row column mark old new from (in
     subst (λ (q : List ℕ). IsSpreading passes hit start size Every (StepsFrom here (rank dir + 1)) new.marks.items (Waits new.straight q)) (sym stays.diagonal) second
 
 -- what else a fall leaves
-pub record IsTame (at to : ℕ) (old new : Spread) : Type 0 where
+pub record IsTame (at to : ℕ) (old new : FieldSpread) : Type 0 where
   pub long : length new.marks.items ≡ length old.marks.items
   pub same : get_or new.marks.items at 0 ≡ get_or old.marks.items at 0
   pub less : weight new ≤ weight old
 
-pub tame : (at to row column mark : ℕ) (old new : Spread) → (at ≡ to → ⊥) → to < length old.marks.items → IsLowered to row column mark old new → IsTame at to old new
+pub tame : (at to row column mark : ℕ) (old new : FieldSpread) → (at ≡ to → ⊥) → to < length old.marks.items → IsLowered to row column mark old new → IsTame at to old new
 tame at to row column mark old new apart within (inl (pair, falls)) =
     let less = falls.less in
     let count = falls.left in
@@ -208,7 +208,7 @@ tame at to row column mark old new apart within (inr (none, stays)) = record {
 }
 
 -- one step of four
-pub relax_more : (dir : Dir) (w at to row column mark cost first : ℕ) (a b c : Spread) → Relaxes w at mark cost first (rank dir) a b
+pub relax_more : (dir : Dir) (w at to row column mark cost first : ℕ) (a b c : FieldSpread) → Relaxes w at mark cost first (rank dir) a b
     → IsBesideSpot w dir at to → IsBesideSpot w (row_part dir) at row → IsBesideSpot w (column_part dir) at column → cost ≡ step_cost dir
     → (at ≡ to → ⊥) → to < length a.marks.items → IsLowered to row column mark b c → Relaxes w at mark cost first (rank dir + 1) a c
 relax_more dir w at to row column mark cost first a b c so_far to_next to_row to_column costs apart within lowered =
@@ -236,7 +236,7 @@ relax_more dir w at to row column mark cost first a b c so_far to_next to_row to
           lowered (so_far.spreads passes hit start size here wide is_here passable below is spreads);
     }
 
-pub relax_none : (w at mark cost first : ℕ) (a : Spread) → Relaxes w at mark cost first first a a
+pub relax_none : (w at mark cost first : ℕ) (a : FieldSpread) → Relaxes w at mark cost first first a a
 relax_none w at mark cost first a = record {
   long = refl;
   same = refl;
@@ -244,7 +244,7 @@ relax_none w at mark cost first a = record {
   spreads = λ passes hit start size here wide is_here passable below is spreads. spreads;
 }
 
-pub relax_four_straight : (w at mark : ℕ) (a b c d e : Spread) → IsInner w at a → IsLowered (at + w) (at + w) (at + w) mark a b → IsLowered (at + 1) (at + 1) (at + 1) mark b c
+pub relax_four_straight : (w at mark : ℕ) (a b c d e : FieldSpread) → IsInner w at a → IsLowered (at + w) (at + w) (at + w) mark a b → IsLowered (at + 1) (at + 1) (at + 1) mark b c
     → IsLowered (at - w) (at - w) (at - w) mark c d → IsLowered (at - 1) (at - 1) (at - 1) mark d e → Relaxes w at mark 65536 0 4 a e
 relax_four_straight w at mark a b c d e inner p q r s =
     let low = inner.below in let high = inner.above in let wide = inner.wide in
@@ -253,7 +253,7 @@ relax_four_straight w at mark a b c d e inner p q r s =
     let south = relax_more S w at (at - w) (at - w) (at - w) mark 65536 0 a c d east (omega arith) (omega arith) (omega arith) refl (λ x. omega arith) (omega arith) r in
     relax_more W w at (at - 1) (at - 1) (at - 1) mark 65536 0 a d e south (omega arith) (omega arith) (omega arith) refl (λ x. omega arith) (omega arith) s
 
-pub relax_four_diagonal : (w at mark : ℕ) (a b c d e : Spread) → IsInner w at a → IsLowered (at + w + 1) (at + 1) (at + w) mark a b → IsLowered (at - w + 1) (at + 1) (at - w) mark b c
+pub relax_four_diagonal : (w at mark : ℕ) (a b c d e : FieldSpread) → IsInner w at a → IsLowered (at + w + 1) (at + 1) (at + w) mark a b → IsLowered (at - w + 1) (at + 1) (at - w) mark b c
     → IsLowered (at - w - 1) (at - 1) (at - w) mark c d → IsLowered (at + w - 1) (at - 1) (at + w) mark d e → Relaxes w at mark 92682 4 8 a e
 relax_four_diagonal w at mark a b c d e inner p q r s =
     let low = inner.below in let high = inner.above in let wide = inner.wide in
@@ -262,7 +262,7 @@ relax_four_diagonal w at mark a b c d e inner p q r s =
     let sw = relax_more SW w at (at - w - 1) (at - 1) (at - w) mark 92682 4 a c d se (omega arith) (omega arith) (omega arith) refl (λ x. omega arith) (omega arith) r in
     relax_more NW w at (at + w - 1) (at - 1) (at + w) mark 92682 4 a d e sw (omega arith) (omega arith) (omega arith) refl (λ x. omega arith) (omega arith) s
 
-pub relax_all : (w at mark more : ℕ) (a b c : Spread) → mark ≡ get_or a.marks.items at 0 + 65536 → more ≡ get_or a.marks.items at 0 + 92682
+pub relax_all : (w at mark more : ℕ) (a b c : FieldSpread) → mark ≡ get_or a.marks.items at 0 + 65536 → more ≡ get_or a.marks.items at 0 + 92682
     → Relaxes w at mark 65536 0 4 a b → Relaxes w at more 92682 4 8 b c → RelaxesAll w at a c
 relax_all w at mark more a b c is is_more straight diagonal =
     let same = straight.same in

@@ -5,7 +5,7 @@ use Rattle.std.proofs.lemmas.List.Elements.{Contains-get_or}
 use Rattle.nav_types.specs.declared.cells.Cell.{Cell}
 use Rattle.nav_types.specs.declared.cells.Size.{Size}
 use Rattle.nav_types.proofs.Items.{Contains-head, Contains-tail, Contains-cons_cases}
-use Rattle.flow_field.specs.declared.spreading.Spread.{Spread}
+use Rattle.flow_field.specs.declared.spreading.FieldSpread.{FieldSpread}
 use Rattle.flow_field.specs.inner.Marks.{free, spot_of, IsSpreading, Every, NoStep}
 use Rattle.flow_field.specs.inner.Spreads.{WaitsIn, weight, IsTaken, StepsFrom, IsInner, RelaxesAll, IsSpreadingForSome, KeepsSpreading}
 use Rattle.flow_field.proofs.Spots.{few_spots, spot_of-low, spot_of-high, spot_of-inj}
@@ -31,7 +31,7 @@ rest_of x xs ys is = record {
   long = omega (arith, ap length is);
 }
 
-pub taken_straight : (at : ℕ) (old new : Spread) → new.marks.items ≡ old.marks.items → old.straight ≡ at ∷ new.straight → new.diagonal ≡ old.diagonal → IsTaken at old new
+pub taken_straight : (at : ℕ) (old new : FieldSpread) → new.marks.items ≡ old.marks.items → old.straight ≡ at ∷ new.straight → new.diagonal ≡ old.diagonal → IsTaken at old new
 taken_straight at old new marks straight diagonal =
     let rest = rest_of at old.straight new.straight straight in
     record {
@@ -48,7 +48,7 @@ taken_straight at old new marks straight diagonal =
       left = omega (arith, rest.long, ap length diagonal);
     }
 
-pub taken_diagonal : (at : ℕ) (old new : Spread) → new.marks.items ≡ old.marks.items → old.diagonal ≡ at ∷ new.diagonal → new.straight ≡ old.straight → IsTaken at old new
+pub taken_diagonal : (at : ℕ) (old new : FieldSpread) → new.marks.items ≡ old.marks.items → old.diagonal ≡ at ∷ new.diagonal → new.straight ≡ old.straight → IsTaken at old new
 taken_diagonal at old new marks diagonal straight =
     let rest = rest_of at old.diagonal new.diagonal diagonal in
     record {
@@ -66,11 +66,11 @@ taken_diagonal at old new marks diagonal straight =
     }
 
 -- where a place that waits lies
-pub record IsHeld (width at : ℕ) (spread : Spread) : Type 0 where
+pub record IsHeld (width at : ℕ) (spread : FieldSpread) : Type 0 where
   pub inner : IsInner width at spread
   pub below : get_or spread.marks.items at 0 < free
 
-pub held : (width at : ℕ) (old new : Spread) → IsSpreadingForSome width old → KeepsSpreading width old new → WaitsIn new at → IsHeld width at new
+pub held : (width at : ℕ) (old new : FieldSpread) → IsSpreadingForSome width old → KeepsSpreading width old new → WaitsIn new at → IsHeld width at new
 held width at old new some keeps waits =
     let size = some.1.1.1.0 in
     let wide = some.1.1.1.1.0 in
@@ -89,7 +89,7 @@ held width at old new some keeps waits =
       below = known.1;
     }
 
-pub held_taken : (width at : ℕ) (old new : Spread) → IsHeld width at old → IsTaken at old new → IsHeld width at new
+pub held_taken : (width at : ℕ) (old new : FieldSpread) → IsHeld width at old → IsTaken at old new → IsHeld width at new
 held_taken width at old new was taken =
     let inner = was.inner in
     let same = taken.marks in
@@ -104,7 +104,7 @@ held_taken width at old new was taken =
     }
 
 -- the place that is taken out is left out
-taken_spreads : (passes hit : Cell → Bool) (start : Cell) (size : Size) (here : Cell) (at : ℕ) (old new : Spread) → IsTaken at old new → spot_of size here ≡ at → IsTrue (passes here)
+taken_spreads : (passes hit : Cell → Bool) (start : Cell) (size : Size) (here : Cell) (at : ℕ) (old new : FieldSpread) → IsTaken at old new → spot_of size here ≡ at → IsTrue (passes here)
     → IsSpreading passes hit start size Every NoStep old.marks.items (WaitsIn old) → IsSpreading passes hit start size Every (StepsFrom here 0) new.marks.items (WaitsIn new)
 taken_spreads passes hit start size here at old new taken is_here passable spreads =
     let sound = spreads.sound in
@@ -125,7 +125,7 @@ taken_spreads passes hit start size here at old new taken is_here passable sprea
     } in
     subst (λ (m : List ℕ). IsSpreading passes hit start size Every (StepsFrom here 0) m (WaitsIn new)) (sym taken.marks) made
 
-pub keeps_more : (width at : ℕ) (first old mid new : Spread) → KeepsSpreading width first old → IsTaken at old mid → RelaxesAll width at mid new → KeepsSpreading width first new
+pub keeps_more : (width at : ℕ) (first old mid new : FieldSpread) → KeepsSpreading width first old → IsTaken at old mid → RelaxesAll width at mid new → KeepsSpreading width first new
 keeps_more width at first old mid new keeps taken relaxed = λ passes hit start size wide begins.
     let spreads = keeps passes hit start size wide begins in
     let known = spreads.reached at taken.waited in
@@ -134,7 +134,7 @@ keeps_more width at first old mid new keeps taken relaxed = λ passes hit start 
     relaxed.spreads passes hit start size here wide (sym found.1.1) found.1.0 (omega (arith, known.1, ap (λ (m : List ℕ). get_or m at 0) taken.marks))
     (taken_spreads passes hit start size here at old mid taken (sym found.1.1) found.1.0 spreads)
 
-pub weight_less : (width at : ℕ) (old mid new : Spread) → IsTaken at old mid → RelaxesAll width at mid new → weight new < weight old
+pub weight_less : (width at : ℕ) (old mid new : FieldSpread) → IsTaken at old mid → RelaxesAll width at mid new → weight new < weight old
 weight_less width at old mid new taken relaxed =
     let count = taken.left in
     omega (arith, relaxed.less, ap sum taken.marks)

@@ -6,7 +6,7 @@ ghost use Rattle.nav_types.specs.Cells.{IsInside, cell_at, IsBefore};
 ghost use Rattle.flow_field.specs.inner.Marks.{spot_of, IsRunCleared, IsCleared, IsFilled, IsSpreading, NoStep, Every};
 ghost use Rattle.flow_field.specs.inner.Spreads.{WaitsIn, FoundBefore, FoundTo};
 
-use crate::spreading::{FREE, Spread};
+use crate::spreading::{FREE, FieldSpread};
 use nav_types::{Aim, Areas, Axis, Cell, Class, FreeCells, NoMemory, Size};
 use std::alloc::Global;
 
@@ -99,7 +99,7 @@ pub fn free_marks<M: FreeCells>(alloc: Global, map: &M, class: Class) -> Result<
     Ok(marks)
 }
 
-impl Spread {
+impl FieldSpread {
     /// Marks a cell as a target where it is one: a hit cell of the start's area, which is `home`.
     fn find_target<M: Areas, A: Aim>(
         &mut self,

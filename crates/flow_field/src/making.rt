@@ -5,8 +5,8 @@ ghost use Rattle.flow_field.specs.Flows.{IsFieldOf};
 
 use crate::fields::Field;
 use crate::filling::free_marks;
-use crate::queues::Queue;
-use crate::spreading::Spread;
+use crate::queues::FieldQueue;
+use crate::spreading::FieldSpread;
 use crate::tables::Table;
 use nav_types::{Aim, Areas, Cell, Class, FreeCells, NoMemory};
 use std::alloc::Global;
@@ -32,10 +32,10 @@ pub fn field<M: FreeCells + Areas, A: Aim>(
     ensures field { IfOk result (IsFieldOf (M.passes map.now class) (A.hit aim.now (M.extent map.now)) start) }
 {
     let size = map.size();
-    let mut spread = Spread {
+    let mut spread = FieldSpread {
         marks: free_marks(alloc, map, class)?,
-        straight: Queue::new(alloc),
-        diagonal: Queue::new(alloc),
+        straight: FieldQueue::new(alloc),
+        diagonal: FieldQueue::new(alloc),
     };
     spread.find_targets(map, class, start, aim)?;
     spread.run(size.w as usize + 2)?;

@@ -10,12 +10,12 @@ use std::marker::Model;
 /// What was taken out keeps its memory, so that all is written and read in order: a sweep over a map takes each place
 /// about once.
 #[derive(Drop)]
-pub struct Queue {
+pub struct FieldQueue {
     places: Vec<u32>,
     head: usize,
 }
 
-impl Model for Queue {
+impl Model for FieldQueue {
     ghost use Rattle.std.specs.Prelude.{ℕ, List, ◌≤◌, drop, length};
 
     ghost Value = { List ℕ };
@@ -25,12 +25,12 @@ impl Model for Queue {
     ghost invariant = { λ q. q.head ≤ length q.places.items };
 }
 
-impl Queue {
+impl FieldQueue {
     /// The empty queue. It takes no memory yet.
-    pub fn new(alloc: Global) -> Queue
+    pub fn new(alloc: Global) -> FieldQueue
         ensures { result ≡ [] }
     {
-        Queue {
+        FieldQueue {
             places: Vec::new(alloc),
             head: 0,
         }

@@ -4,7 +4,7 @@ ghost use Rattle.nav_types.specs.declared.limits.TheConstants.{STRAIGHT_COST, DI
 ghost use Rattle.flow_field.specs.inner.Marks.{free};
 ghost use Rattle.flow_field.specs.inner.Spreads.{WaitsIn, IsLowered, IsTaken, IsInner, Relaxes, RelaxesAll, IsSpreadingForSome, KeepsSpreading};
 
-use crate::queues::Queue;
+use crate::queues::FieldQueue;
 use nav_types::NoMemory;
 use nav_types::limits::{DIAGONAL_COST, MAX_SIDE, STRAIGHT_COST};
 
@@ -20,13 +20,13 @@ const _: () = prove!(MAX_SIDE as u64 * MAX_SIDE as u64 * DIAGONAL_COST < FREE);
 /// In each of the two queues marks rise, so that the smaller of their heads is the least mark that waits, and nearly
 /// every place is taken once.
 #[derive(Drop)]
-pub struct Spread {
+pub struct FieldSpread {
     pub marks: Vec<u64>,
-    pub straight: Queue,
-    pub diagonal: Queue,
+    pub straight: FieldQueue,
+    pub diagonal: FieldQueue,
 }
 
-impl Spread {
+impl FieldSpread {
     /// Lowers a mark to one that is less, as a straight step does.
     #[inline(always)]
     pub fn lower_straight(&mut self, at: usize, mark: u64) -> Result<(), NoMemory>

@@ -7,7 +7,7 @@ use Rattle.nav_types.specs.declared.cells.Rect.{Rect}
 use Rattle.nav_types.specs.declared.cells.Size.{Size}
 use Rattle.nav_types.specs.Cells.{IsInside, IsInRect}
 use Rattle.nav_types.specs.declared.straights.Axis.TheVariants.{Row, Column}
-use Rattle.goal_reach.specs.declared.rings.Block.{Block}
+use Rattle.goal_reach.specs.declared.rings.RingBlock.{RingBlock}
 use Rattle.nav_types.specs.Rects.{map_rect}
 use Rattle.goal_reach.specs.inner.Rings.{widened, clipped, Encloses, IsOnRing, IsInBlock}
 use Rattle.goal_reach.specs.declared.choices.Ranked.{Ranked}
@@ -32,16 +32,16 @@ in_rect_or_not rect cell = elim (cases_lt cell.i rect.i0) [
 
 -- ---- the sides of a ring
 
-abbrev pub south_side : Rect → Rect → Block
+abbrev pub south_side : Rect → Rect → RingBlock
 south_side inner outer = record { axis = Row; first_line = outer.j0; past_line = inner.j0; from = outer.i0; end = outer.i1 + 1 }
 
-abbrev pub north_side : Rect → Rect → Block
+abbrev pub north_side : Rect → Rect → RingBlock
 north_side inner outer = record { axis = Row; first_line = inner.j1 + 1; past_line = outer.j1 + 1; from = outer.i0; end = outer.i1 + 1 }
 
-abbrev pub west_side : Rect → Rect → Block
+abbrev pub west_side : Rect → Rect → RingBlock
 west_side inner outer = record { axis = Column; first_line = outer.i0; past_line = inner.i0; from = inner.j0; end = inner.j1 + 1 }
 
-abbrev pub east_side : Rect → Rect → Block
+abbrev pub east_side : Rect → Rect → RingBlock
 east_side inner outer = record { axis = Column; first_line = inner.i1 + 1; past_line = outer.i1 + 1; from = inner.j0; end = inner.j1 + 1 }
 
 abbrev pub IsOnSides : Rect → Rect → Cell → Type 0

@@ -6,7 +6,7 @@ use Rattle.nav_types.specs.declared.cells.Cell.{Cell}
 use Rattle.nav_types.specs.declared.cells.Size.{Size}
 use Rattle.nav_types.specs.declared.straights.Axis.{Axis}
 use Rattle.nav_types.specs.declared.straights.Axis.TheVariants.{Row, Column}
-use Rattle.goal_reach.specs.declared.rings.Block.{Block}
+use Rattle.goal_reach.specs.declared.rings.RingBlock.{RingBlock}
 use Rattle.goal_reach.specs.declared.choices.Ranked.{Ranked}
 use Rattle.goal_reach.specs.inner.Ranking.{with_rank, IsNoWorse, IsBest}
 use Rattle.nav_types.specs.Cells.{IsInside, IsNotAfter}
@@ -139,5 +139,5 @@ alone_best rank Offered axis line place best is offered =
     )
 
 -- a block with its first lines
-abbrev pub up_to_line : Block → ℕ → Block
+abbrev pub up_to_line : RingBlock → ℕ → RingBlock
 up_to_line block line = record { axis = block.axis; first_line = block.first_line; past_line = line; from = block.from; end = block.end }

@@ -54,7 +54,7 @@ pub(crate) trait Choice {
             → free self.now (cell_on axis (line_on axis cell) result) };
 
     /// The best cell of a stretch of the line, which begins with the free cell at place `from` and ends before `end`.
-    fn best_from(&self, axis: Axis, line: u16, from: u16, end: u16) -> Stretch
+    fn best_from(&self, axis: Axis, line: u16, from: u16, end: u16) -> RowStretch
         requires sound { sound self.now }
         requires inside { (cell : Cell) → IsInRun axis line from end cell → IsInside (extent self.now) cell }
         requires places { from < end }
@@ -81,7 +81,7 @@ pub(crate) struct Ranked {
 
 /// The best cell of a stretch of a line, and the first place past the stretch.
 #[derive(Clone, Copy)]
-pub(crate) struct Stretch {
+pub(crate) struct RowStretch {
     pub best: Option<Ranked>,
     pub past: u16,
 }

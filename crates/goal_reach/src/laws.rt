@@ -1,3 +1,4 @@
+//! Laws of starts and targets: there is one at most.
 ghost use Rattle.std.specs.Prelude.{◌≡◌, ℤ, Bool};
 ghost use Rattle.nav_types.specs.declared.cells.Cell.{Cell};
 ghost use Rattle.goal_shapes.specs.declared.goals.Goal.{Goal};

@@ -1,3 +1,4 @@
+//! Goals made reachable: the goal where it can be walked to, else the closest cell that can.
 ghost use Rattle.std.specs.Prelude.{◌≡◌, ◌<◌, ◌≤◌, ◌↔◌, IsTrue, IsFalse};
 ghost use Rattle.nav_types.specs.declared.cells.Cell.{Cell};
 ghost use Rattle.nav_types.specs.declared.straights.Axis.TheVariants.{Row};
@@ -14,7 +15,7 @@ ghost use Rattle.goal_reach.specs.inner.StartAreas.{IsAreaOf};
 ghost use Rattle.goal_reach.specs.inner.Stretches.{is_inside_out, IsStretch};
 ghost use Rattle.nav_types.specs.Walks.{CanReach};
 
-use crate::choices::{Choice, Ranked, Stretch, preferred};
+use crate::choices::{Choice, Ranked, RowStretch, preferred};
 use crate::remote::least_remoteness;
 use crate::rings::least_cell;
 use crate::targets::Target;
@@ -299,9 +300,9 @@ impl<M: Areas + FreeCells> Choice for AreaCells<'_, M> {
         self.map.next_free(self.class, axis, cell)
     }
 
-    fn best_from(&self, axis: Axis, line: u16, from: u16, end: u16) -> Stretch {
+    fn best_from(&self, axis: Axis, line: u16, from: u16, end: u16) -> RowStretch {
         let past = self.past_alike(axis, line, from, end);
-        Stretch {
+        RowStretch {
             best: self.best_of_stretch(axis, line, from, past),
             past,
         }

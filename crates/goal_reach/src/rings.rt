@@ -14,7 +14,7 @@ use nav_types::{Axis, Cell, Rect, Size, cell_on};
 /// The cells of rows, or of columns, that lie side by side: of the lines from `first_line` up to `past_line` those
 /// at the places from `from` up to `end`. `past_line` and `end` are the first that no longer belong to it.
 #[derive(Drop)]
-struct Block {
+struct RingBlock {
     axis: Axis,
     first_line: u16,
     past_line: u16,
@@ -94,28 +94,28 @@ fn best_on_ring<C: Choice>(choice: &C, inner: Rect, outer: Rect) -> Option<Ranke
     requires holds { Encloses outer inner }
     ensures { IsBest (C.rank_of choice.now) (λ cell. C.offered choice.now cell × IsOnRing inner outer cell) result }
 {
-    let south = Block {
+    let south = RingBlock {
         axis: Axis::Row,
         first_line: outer.j0,
         past_line: inner.j0,
         from: outer.i0,
         end: outer.i1 + 1,
     };
-    let north = Block {
+    let north = RingBlock {
         axis: Axis::Row,
         first_line: inner.j1 + 1,
         past_line: outer.j1 + 1,
         from: outer.i0,
         end: outer.i1 + 1,
     };
-    let west = Block {
+    let west = RingBlock {
         axis: Axis::Column,
         first_line: outer.i0,
         past_line: inner.i0,
         from: inner.j0,
         end: inner.j1 + 1,
     };
-    let east = Block {
+    let east = RingBlock {
         axis: Axis::Column,
         first_line: inner.i1 + 1,
         past_line: outer.i1 + 1,
@@ -134,7 +134,7 @@ fn best_in_rect<C: Choice>(choice: &C, rect: Rect) -> Option<Ranked>
     requires inside { IsRectInside (C.extent choice.now) rect }
     ensures { IsBest (C.rank_of choice.now) (λ cell. C.offered choice.now cell × IsInRect rect cell) result }
 {
-    let block = Block {
+    let block = RingBlock {
         axis: Axis::Row,
         first_line: rect.j0,
         past_line: rect.j1 + 1,
@@ -145,7 +145,7 @@ fn best_in_rect<C: Choice>(choice: &C, rect: Rect) -> Option<Ranked>
 }
 
 /// The best cell of a block.
-fn best_in_block<C: Choice>(choice: &C, block: &Block) -> Option<Ranked>
+fn best_in_block<C: Choice>(choice: &C, block: &RingBlock) -> Option<Ranked>
     requires sound { C.sound choice.now }
     requires inside { IsBlockInside (C.extent choice.now) block.now }
     ensures { IsBest (C.rank_of choice.now) (λ cell. C.offered choice.now cell × IsInBlock block.now cell) result }

@@ -1,10 +1,11 @@
+//! The start cell of a point: the nearest passable cell.
 ghost use Rattle.std.specs.Prelude.{◌<◌, ◌↔◌, IsTrue, IsFalse, IfSome, IsNone};
 ghost use Rattle.nav_types.specs.declared.cells.Cell.{Cell};
 ghost use Rattle.fixed_point.specs.Plane.{IsOnAxis};
 ghost use Rattle.goal_shapes.specs.Goals.{HoldsPoint, squared_distance};
 ghost use Rattle.goal_reach.specs.Starts.{IsStartCell};
 
-use crate::choices::{Choice, Ranked, Stretch};
+use crate::choices::{Choice, Ranked, RowStretch};
 use crate::rings::least_cell;
 use fixed_point::{Fixed, squared};
 use goal_shapes::{cell_of_point, squared_distance};
@@ -81,10 +82,10 @@ impl<V: FreeCells> Choice for PassableCells<'_, V> {
     }
 
     // A free cell is passable.
-    fn best_from(&self, axis: Axis, line: u16, from: u16, _end: u16) -> Stretch {
+    fn best_from(&self, axis: Axis, line: u16, from: u16, _end: u16) -> RowStretch {
         let cell = cell_on(axis, line, from);
         let rank = squared_distance(self.x, self.z, cell);
-        Stretch {
+        RowStretch {
             best: Some(Ranked { cell, rank }),
             past: from + 1,
         }

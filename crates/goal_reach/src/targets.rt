@@ -1,3 +1,4 @@
+//! What a search looks for once its goal is made reachable.
 use goal_shapes::Goal;
 use nav_types::{Aim, Cell, Rect, Size};
 

@@ -1,3 +1,4 @@
+//! A goal as an aim: which cells it hits, and in which rectangle they are.
 use crate::containing::{cell_box, contains};
 use crate::goals::Goal;
 use nav_types::{Aim, Cell, Rect, Size};

@@ -1,3 +1,4 @@
+//! The rectangle of cells that a point, a circle or a square can hold.
 ghost use Rattle.std.specs.Prelude.{◌≤◌, ◌<◌, ◌^◌, ◌↔◌, ℕ, unsigned_abs};
 ghost use Rattle.nav_types.specs.declared.cells.Cell.{Cell};
 ghost use Rattle.nav_types.specs.Cells.{IsInside, IsInRect, IsRectInside};

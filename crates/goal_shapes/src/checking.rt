@@ -1,3 +1,4 @@
+//! Whether a goal fits a map, and why not.
 ghost use Rattle.std.specs.Prelude.{◌↔◌, IsTrue, IsErrOf, Some, codes};
 ghost use Rattle.std.specs.Result.{OkIff};
 ghost use Rattle.goal_shapes.specs.Limits.{IsWellFormedSquare, IsWellFormed, IsGoalInside, IsSoundGoal};

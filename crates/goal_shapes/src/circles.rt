@@ -1,3 +1,4 @@
+//! Cells and circles: which they meet, and how far away they are.
 ghost use Rattle.std.specs.Prelude.{◌≡◌, ◌≤◌, ◌-◌, ◌^◌, unsigned_abs};
 ghost use Rattle.std.specs.List.{list_any};
 ghost use Rattle.goal_shapes.specs.Goals.{gap, corners_of, squared_length, squared_distance, meets_circle, is_off_circle};

@@ -1,3 +1,4 @@
+//! Which cells are goal cells, how remote the others are, and the goal's box.
 ghost use Rattle.std.specs.Prelude.{◌≡◌};
 ghost use Rattle.nav_types.specs.Frames.{IsFrame};
 ghost use Rattle.goal_shapes.specs.Limits.{IsWellFormed, IsSoundGoal};

@@ -1,3 +1,4 @@
+//! The corners of cells, as raw numbers.
 ghost use Rattle.std.specs.Prelude.{◌≡◌, ◌≤◌, ◌^◌, unsigned_abs};
 ghost use Rattle.goal_shapes.specs.Goals.{from_edge, corners_of};
 

@@ -1,3 +1,4 @@
+//! The kinds of goals.
 ghost use Rattle.std.specs.Prelude.{◌≡◌, ◌↔◌, IsTrue};
 ghost use Rattle.goal_shapes.specs.Limits.{extent, upright};
 

@@ -1,3 +1,4 @@
+//! A goal about an obstruction, some distance away from it.
 ghost use Rattle.std.specs.Prelude.{◌≡◌, ◌+ℤ◌, Some, codes};
 ghost use Rattle.std.specs.Result.{OkIff};
 ghost use Rattle.nav_types.specs.declared.limits.TheConstants.{MAX_GROWTH, MAX_HALF_SIDE};

@@ -1,3 +1,4 @@
+//! Laws of goals.
 ghost use Rattle.std.specs.Prelude.{◌≡◌, ℤ, IsTrue};
 ghost use Rattle.nav_types.specs.declared.limits.TheConstants.{MAX_GROWTH, MAX_HALF_SIDE};
 ghost use Rattle.nav_types.specs.declared.cells.Cell.{Cell};

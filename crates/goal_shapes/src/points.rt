@@ -1,3 +1,4 @@
+//! Cells and points: which holds one, and how far away the others are.
 ghost use Rattle.std.specs.Prelude.{◌≡◌, ◌≤◌, ◌+◌, ◌*◌, ◌^◌, ◌↔◌, pos, ◌≤ℤ◌, IsSome, IfSome};
 ghost use Rattle.fixed_point.specs.Raw.{floor_of};
 ghost use Rattle.fixed_point.specs.Plane.{square, IsOnAxis};

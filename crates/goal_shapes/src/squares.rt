@@ -1,3 +1,4 @@
+//! Cells and squares, turned or not: which they meet, and how far away they are.
 ghost use Rattle.std.specs.Prelude.{◌≡◌, ◌≤◌, ◌+◌, ◌*◌, ◌^◌, ◌↔◌, ℤ, unsigned_abs, IsTrue};
 ghost use Rattle.std.specs.List.{list_any};
 ghost use Rattle.nav_types.specs.declared.limits.TheConstants.{MAX_GOAL_EXTENT};

@@ -18,8 +18,8 @@ use Rattle.chunk_regions.specs.Labelling.{Labelling, AreLabels}
 use Rattle.nav_types.specs.Rects.{chunk_rect}
 use Rattle.nav_types.proofs.CellOrder.{same_chunk}
 use Rattle.chunk_regions.proofs.LabelLemmas.{in_rect, AreLabels-placed, AreLabels-at_most}
-use Rattle.region_edges.specs.declared.neighbours.Side.{Side}
-use Rattle.region_edges.specs.declared.neighbours.Side.TheVariants.{East, North}
+use Rattle.region_edges.specs.declared.neighbours.ChunkSide.{ChunkSide}
+use Rattle.region_edges.specs.declared.neighbours.ChunkSide.TheVariants.{East, North}
 use Rattle.region_edges.specs.Edges.{LiesOn, AreNeighbours, PassesInside, IsPairBefore, AreEdges}
 use Rattle.reach_sets.specs.declared.regions.RegionId.{RegionId}
 use Rattle.reach_sets.specs.RegionOrder.{IsRegion}
@@ -42,12 +42,12 @@ laid_out passes size labels of =
     (λ chunk one. (one.chunk ≡ chunk) × (one.cells.rect ≡ chunk_rect size chunk)) labels
     (λ chunk one own. (own.of_chunk, own.extent)) of
 
-pub lies_beyond : (side : Side) (chunk : Chunk) → LiesOn side chunk (neighbour_on side chunk)
+pub lies_beyond : (side : ChunkSide) (chunk : Chunk) → LiesOn side chunk (neighbour_on side chunk)
 lies_beyond East chunk = (refl, refl)
 lies_beyond North chunk = (refl, refl)
 
 -- the labels of a chunk and of its neighbour on a side are labels of neighbours
-pub are_neighbours : (side : Side) (size : Size) (labels : List Labelling) (place to : ℕ) (here there : Chunk) (near far : Labelling)
+pub are_neighbours : (side : ChunkSide) (size : Size) (labels : List Labelling) (place to : ℕ) (here there : Chunk) (near far : Labelling)
     → IsLaidOut size labels → here ≡ chunk_numbered size place → there ≡ neighbour_on side here → IsChunkInside size there → to ≡ chunk_place size there
     → slice_get labels place ≡ Some near → slice_get labels to ≡ Some far → AreNeighbours side near far
 are_neighbours side size labels place to here there near far laid here_is there_is inside to_is near_at far_at =
@@ -67,7 +67,7 @@ are_neighbours side size labels place to here there near far laid here_is there_
     }
 
 -- what `between` makes of them
-pub edges_between : (side : Side) (size : Size) (labels : List Labelling) (place to : ℕ) (here there : Chunk) (near far : Labelling)
+pub edges_between : (side : ChunkSide) (size : Size) (labels : List Labelling) (place to : ℕ) (here there : Chunk) (near far : Labelling)
     → IsLaidOut size labels → here ≡ chunk_numbered size place → there ≡ neighbour_on side here → IsChunkInside size there → to ≡ chunk_place size there
     → slice_get labels place ≡ Some near → slice_get labels to ≡ Some far → (edges : List (ℕ × ℕ))
     → ((passes : Cell → Bool) (size : Size) → PassesInside passes size → AreLabels passes size near.chunk near → AreLabels passes size far.chunk far
@@ -102,7 +102,7 @@ same_link : (a b : RegionId × RegionId) → a.0.chunk ≡ b.0.chunk → a.0.reg
 same_link a b here near there far = same_pair a b (same_region a.0 b.0 here near) (same_region a.1 b.1 there far)
 
 -- one chunk more on a side
-pub side_links_more : (size : Size) (side : Side) (all : List (List (ℕ × ℕ))) (start old new : List (RegionId × RegionId)) (place step : ℕ) (edges : List (ℕ × ℕ))
+pub side_links_more : (size : Size) (side : ChunkSide) (all : List (List (ℕ × ℕ))) (start old new : List (RegionId × RegionId)) (place step : ℕ) (edges : List (ℕ × ℕ))
     → slice_get all place ≡ Some edges → chunk_place size (neighbour_on side (chunk_numbered size place)) ≡ place + step
     → new ≡ old ++ map (link_between place (place + step)) edges
     → ((link : RegionId × RegionId) → Contains old link ↔ (Contains start link ⊎ ((link.0.chunk < place) × IsSideLink size side all link)))
@@ -141,7 +141,7 @@ side_links_more size side all start old new place step edges at to made so_far l
     )
 
 -- all chunks of a side were read
-pub side_links_all : (size : Size) (side : Side) (all : List (List (ℕ × ℕ))) (start links : List (RegionId × RegionId)) (place : ℕ) → length all ≤ place
+pub side_links_all : (size : Size) (side : ChunkSide) (all : List (List (ℕ × ℕ))) (start links : List (RegionId × RegionId)) (place : ℕ) → length all ≤ place
     → ((link : RegionId × RegionId) → Contains links link ↔ (Contains start link ⊎ ((link.0.chunk < place) × IsSideLink size side all link)))
     → (link : RegionId × RegionId) → Contains links link ↔ (Contains start link ⊎ IsSideLink size side all link)
 side_links_all size side all start links place end is link = (
@@ -165,12 +165,12 @@ two_sides none one both P Q empty first second x = (
 
 -- ---- links are the edges of the map
 
-next_beyond : (side : Side) (chunk : Chunk) → IsNextChunk chunk (neighbour_on side chunk)
+next_beyond : (side : ChunkSide) (chunk : Chunk) → IsNextChunk chunk (neighbour_on side chunk)
 next_beyond East chunk = inl (refl, refl)
 next_beyond North chunk = inr (refl, refl)
 
 -- a link on a side is an edge
-touch_from_link : (passes : Cell → Bool) (size : Size) (side : Side) (all : List (List (ℕ × ℕ)))
+touch_from_link : (passes : Cell → Bool) (size : Size) (side : ChunkSide) (all : List (List (ℕ × ℕ)))
     → AreAllEdges side passes size all
     → (a b : RegionId) → IsSideLink size side all (a, b) → HaveEdge passes size a b
 touch_from_link passes size side all of a b link =
@@ -184,7 +184,7 @@ touch_from_link passes size side all of a b link =
       to = link.to;
     }
 
-link_from_touch : (passes : Cell → Bool) (size : Size) (side : Side) (all : List (List (ℕ × ℕ))) → PassesInside passes size
+link_from_touch : (passes : Cell → Bool) (size : Size) (side : ChunkSide) (all : List (List (ℕ × ℕ))) → PassesInside passes size
     → AreAllEdges side passes size all
     → (a b : RegionId) (touch : HaveEdge passes size a b) → neighbour_on side touch.here ≡ touch.there → IsSideLink size side all (a, b)
 link_from_touch passes size side all inside of a b touch beyond_is =
@@ -365,7 +365,7 @@ module _ (passes : Cell → Bool) (size : Size) (labels : List Labelling) (insid
       let b_most = most (chunk_place size there) 0 b_is.chunk in
       (omega arith, omega arith)
 
-  pub side_few : All (λ count. count ≤ 9216) (label_counts labels) → (side : Side) (all : List (List (ℕ × ℕ)))
+  pub side_few : All (λ count. count ≤ 9216) (label_counts labels) → (side : ChunkSide) (all : List (List (ℕ × ℕ)))
       → AreAllEdges side passes size all
       → sum_by length all ≤ 484 * 84953089
   side_few most side all edges_of =

@@ -15,8 +15,8 @@ use Rattle.nav_types.proofs.CellOrder.{same_chunk}
 use Rattle.nav_types.specs.Numbering.{number_of}
 use Rattle.chunk_regions.specs.Labelling.{Labelling, AreLabels}
 use Rattle.lane_rows.specs.Rows.{has_class}
-use Rattle.region_edges.specs.declared.neighbours.Side.{Side}
-use Rattle.region_edges.specs.declared.neighbours.Side.TheVariants.{East, North}
+use Rattle.region_edges.specs.declared.neighbours.ChunkSide.{ChunkSide}
+use Rattle.region_edges.specs.declared.neighbours.ChunkSide.TheVariants.{East, North}
 use Rattle.region_edges.specs.Edges.{PassesInside, AreEdges}
 use Rattle.reach_sets.specs.AreaNumbers.{AreaNumbers, AreAreas}
 use Rattle.grid_versions.specs.Chunks.{chunk_count, chunk_place}
@@ -107,13 +107,13 @@ outside_agrees before now size class bits chunk changes outside cell here =
     (chunk_inside size cell (differing_inside before now size changes.before_inside changes.now_inside cell apart))))
 
 -- a neighbour past the last place has no cell in the maps
-pub beyond_outside : (size : Size) (side : Side) (place next : ℕ) → chunk_place size (neighbour_on side (chunk_numbered size place)) ≡ next
+pub beyond_outside : (size : Size) (side : ChunkSide) (place next : ℕ) → chunk_place size (neighbour_on side (chunk_numbered size place)) ≡ next
     → chunk_count size ≤ next → IsChunkInside size (neighbour_on side (chunk_numbered size place)) → ⊥
 beyond_outside size side place next is past inside =
     let low = place_below size (neighbour_on side (chunk_numbered size place)) inside in omega arith
 
 -- a neighbour without a mark, which may lie outside both maps
-pub neighbour_agrees : (before now : Cell → Bool) (size : Size) (class : ℕ) (bits : List ℕ) (side : Side) (place next : ℕ) (mark : Bool)
+pub neighbour_agrees : (before now : Cell → Bool) (size : Size) (class : ℕ) (bits : List ℕ) (side : ChunkSide) (place next : ℕ) (mark : Bool)
     → AreChanges before now size class bits → chunk_place size (neighbour_on side (chunk_numbered size place)) ≡ next
     → slice_get (map (has_class class) bits) next ≡ Some mark → IsFalse mark → AgreeInChunk before now (neighbour_on side (chunk_numbered size place))
 neighbour_agrees before now size class bits side place next mark changes is at unmarked =

@@ -17,8 +17,8 @@ use Rattle.nav_types.proofs.FirstCells.{AreFirsts-unique}
 use Rattle.nav_types.proofs.Regions.{lies_in, one_region}
 use Rattle.chunk_regions.specs.Labelling.{Labelling, AreLabels}
 use Rattle.chunk_regions.proofs.LabelLemmas.{in_rect}
-use Rattle.region_edges.specs.declared.neighbours.Side.{Side}
-use Rattle.region_edges.specs.declared.neighbours.Side.TheVariants.{East, North}
+use Rattle.region_edges.specs.declared.neighbours.ChunkSide.{ChunkSide}
+use Rattle.region_edges.specs.declared.neighbours.ChunkSide.TheVariants.{East, North}
 use Rattle.region_edges.specs.Edges.{LiesOn, PassesInside, AreEdges}
 use Rattle.region_edges.proofs.EdgeLemmas.{goes_on}
 use Rattle.class_planes.proofs.UpdateLemmas.{in_rect_or_not}
@@ -204,7 +204,7 @@ same_apart before now size part Among apart kept =
     )
 
 -- a neighbour with a part that has no cell of the border, which may lie outside both maps
-pub neighbour_kept : (before now : Cell → Bool) (size : Size) (class : ℕ) (bits : List ℕ) (side : Side) (place next : ℕ) (part : Rect)
+pub neighbour_kept : (before now : Cell → Bool) (size : Size) (class : ℕ) (bits : List ℕ) (side : ChunkSide) (place next : ℕ) (part : Rect)
     → AreChanges before now size class bits → chunk_place size (neighbour_on side (chunk_numbered size place)) ≡ next
     → ((cell : Cell) → IsFirstOn side cell → IsInRect part cell → ⊥)
     → IsKeptPart before now size (record { place = next; rect = part })
@@ -234,11 +234,11 @@ kept_listed before now size kept part all listed =
     subst (IsKeptPart before now size) listed.2 (all listed.0 part listed.1)
 
 -- an edge leads from the last column or row of its chunk to the first one of the neighbour
-record StandsOn (side : Side) (from to : Cell) : Type 0 where
+record StandsOn (side : ChunkSide) (from to : Cell) : Type 0 where
   last : IsLastOn side from
   first : IsFirstOn side to
 
-stands_on : (passes : Cell → Bool) (side : Side) (here there : Chunk) (near far : ℕ) → LiesOn side here there
+stands_on : (passes : Cell → Bool) (side : ChunkSide) (here there : Chunk) (near far : ℕ) → LiesOn side here there
     → (edge : IsEdge passes here there near far) → StandsOn side edge.from edge.to
 stands_on passes East here there near far lies edge =
     let a = lies_in passes here edge.from edge.from_passes in
@@ -253,7 +253,7 @@ stands_on passes North here there near far lies edge =
     let ar = a.row in let br = b.row in let lr = lies.1 in let gr = goes.1 in
     record { last = omega arith; first = omega arith }
 
-edge_kept : (before now : Cell → Bool) (side : Side) (here there : Chunk) (near far : ℕ) → LiesOn side here there
+edge_kept : (before now : Cell → Bool) (side : ChunkSide) (here there : Chunk) (near far : ℕ) → LiesOn side here there
     → KeepRegions before now here (IsLastOn side) → KeepRegions before now there (IsFirstOn side)
     → IsEdge before here there near far → IsEdge now here there near far
 edge_kept before now side here there near far lies own other edge =
@@ -269,7 +269,7 @@ edge_kept before now side here there near far lies own other edge =
     }
 
 -- edges look at the regions along the border alone
-pub edges_kept : (before now : Cell → Bool) (side : Side) (here there : Chunk) (edges : List (ℕ × ℕ)) → LiesOn side here there
+pub edges_kept : (before now : Cell → Bool) (side : ChunkSide) (here there : Chunk) (edges : List (ℕ × ℕ)) → LiesOn side here there
     → SameRegions before now here (IsLastOn side) → SameRegions before now there (IsFirstOn side)
     → AreEdges before here there edges → AreEdges now here there edges
 edges_kept before now side here there edges lies own other are = record {

@@ -12,9 +12,11 @@ use Rattle.std.proofs.Math.Nat.{max-zero}
 use Rattle.nav_types.specs.declared.cells.Cell.{Cell}
 use Rattle.nav_types.specs.declared.cells.Rect.{Rect}
 use Rattle.nav_types.specs.Cells.{IsInRect}
+use Rattle.nav_types.specs.Rects.{IsPartOf}
 use Rattle.lane_rows.specs.Rows.{has_class, one_if}
 use Rattle.clearance_raster.specs.inner.TestRasters.{IsRasterIn}
-use Rattle.clearance_raster.proofs.Rastering.{Test, Numbers, part_none, part_both}
+use Rattle.clearance_raster.proofs.Rastering.{Test, Numbers, in_whole, part_none, part_both}
+use Rattle.class_planes.proofs.UpdateLemmas.{in_rect_or_not}
 
 -- ---- one item after another
 
@@ -101,3 +103,58 @@ Ends-set rect part test all rest first now set so =
     so.ends now (raster_over rect part (λ k cell. false) (λ k cell. list_any (test k cell) rest) now now
     (λ k cell inside none. absurd (both_ways false refl none)) (λ k cell inside is. inl (set k cell inside is))
     (part_none rect part (λ k cell. false) now (λ k cell inside. refl)))
+
+-- ---- a part of which some is left
+
+-- in a part, but for what is left of it, what is blocked is set
+abbrev pub Settled : Rect → Rect → Test → Numbers → Type 0
+Settled part left blocked numbers = (k : ℕ) (cell : Cell) → IsInRect part cell → (IsInRect left cell → ⊥)
+    → blocked k cell ≡ true → has_class k (numbers cell) ≡ true
+
+-- less is left where the rest is like numbers that have all
+pub settled_more : (part left rest : Rect) (blocked : Test) (now most : Numbers) → Settled part left blocked now
+    → ((k : ℕ) (cell : Cell) → IsInRect left cell → (IsInRect rest cell → ⊥) → has_class k (now cell) ≡ has_class k (most cell))
+    → ((k : ℕ) (cell : Cell) → IsInRect part cell → blocked k cell ≡ true → has_class k (most cell) ≡ true)
+    → Settled part rest blocked now
+settled_more part left rest blocked now most settled like all k cell inside out holds = in_rect_or_not left cell
+    (λ here. like k cell here out ∙ all k cell inside holds)
+    (λ apart. settled k cell inside apart holds)
+
+-- nothing is left where all that was is like numbers that have all
+pub settled_all : (part left : Rect) (blocked : Test) (now most : Numbers) → Settled part left blocked now
+    → ((k : ℕ) (cell : Cell) → IsInRect left cell → has_class k (now cell) ≡ has_class k (most cell))
+    → ((k : ℕ) (cell : Cell) → IsInRect part cell → blocked k cell ≡ true → has_class k (most cell) ≡ true)
+    → (k : ℕ) (cell : Cell) → IsInRect part cell → blocked k cell ≡ true → has_class k (now cell) ≡ true
+settled_all part left blocked now most settled like all k cell inside holds = in_rect_or_not left cell
+    (λ here. like k cell here ∙ all k cell inside holds)
+    (λ apart. settled k cell inside apart holds)
+
+-- what is painted in what is left leaves the rest settled
+pub settled_after : (rect part left : Rect) (blocked test : Test) (old new : Numbers) → IsPartOf rect part
+    → Settled part left blocked old → IsRasterIn rect left test old new → Settled part left blocked new
+settled_after rect part left blocked test old new whole settled is k cell inside out holds =
+    ap (λ n. has_class k n) (is.others cell (in_whole rect part cell whole inside) out) ∙ settled k cell inside out holds
+
+set_bit : (n k : ℕ) (test : Bool) → (test ≡ true → has_class k n ≡ true) → bit_at n k ≡ max (bit_at n k) (one_if test)
+set_bit n k true set = let one : bit_at n k ≡ 1 = eqb-true (bit_at n k) 1 (set refl) in omega arith
+set_bit n k false set = sym (max-zero (bit_at n k))
+
+-- a raster of what is left of a part is one of the part, where elsewhere in it each bit is set already
+pub raster_left : (rect part left : Rect) (test : Test) (old new : Numbers) → IsPartOf rect part → IsPartOf part left
+    → Settled part left test old → IsRasterIn rect left test old new → IsRasterIn rect part test old new
+raster_left rect part left test old new whole within settled is = record {
+  bits = λ cell k inside. in_rect_or_not left cell
+      (λ here. is.bits cell k here)
+      (λ out. ap (λ n. bit_at n k) (is.others cell (in_whole rect part cell whole inside) out)
+      ∙ set_bit (old cell) k (test k cell) (λ holds. settled k cell inside out holds));
+  others = λ cell inside out. is.others cell inside (λ here. out (in_whole part left cell within here));
+}
+
+-- a part of a part
+pub part_of_part : (rect part left : Rect) → IsPartOf rect part → IsPartOf part left → IsPartOf rect left
+part_of_part rect part left whole within = record {
+  first = in_whole rect part (record { j = left.j0; i = left.i0 }) whole within.first;
+  last = in_whole rect part (record { j = left.j1; i = left.i1 }) whole within.last;
+  columns = within.columns;
+  rows = within.rows;
+}

@@ -11,8 +11,8 @@ use Rattle.nav_types.specs.Regions.{passes_in, InOneRegion, IsRegionFirst, IsNex
 use Rattle.chunk_regions.specs.Labelling.{Labelling, AreLabels}
 use Rattle.nav_types.proofs.CellOrder.{same_chunk, IsBefore-irrefl}
 use Rattle.region_edges.specs.Edges.{PassesInside, IsPairBefore, AreEdges}
-use Rattle.region_edges.specs.declared.neighbours.Side.{Side}
-use Rattle.region_edges.specs.declared.neighbours.Side.TheVariants.{East, North}
+use Rattle.region_edges.specs.declared.neighbours.ChunkSide.{ChunkSide}
+use Rattle.region_edges.specs.declared.neighbours.ChunkSide.TheVariants.{East, North}
 use Rattle.region_edges.proofs.PairLemmas.{IsPairBefore-asym}
 use Rattle.grid_versions.specs.Chunks.{chunk_count, chunk_place}
 use Rattle.grid_versions.specs.inner.ChunkLists.{chunk_numbered, IsChunkInside, east_of, north_of, neighbour_on, AreOfChunks}
@@ -83,13 +83,13 @@ module _ (passes : Cell → Bool) (size : Size) (tables : Tables) (inside : Pass
       (Counts-chunks size (λ chunk labels. AreLabels passes size chunk labels) FirstIn count tables.labels are.labels_are firsts_counted)
 
   -- the edges of a chunk to its neighbour on a side
-  abbrev EdgeTo : Side → Chunk → ℕ × ℕ → Type 0
+  abbrev EdgeTo : ChunkSide → Chunk → ℕ × ℕ → Type 0
   EdgeTo side chunk pair = IsEdge passes chunk (neighbour_on side chunk) pair.0 pair.1
 
-  abbrev EdgeOn : Side → Chunk × Chunk × ℕ × ℕ → Type 0
+  abbrev EdgeOn : ChunkSide → Chunk × Chunk × ℕ × ℕ → Type 0
   EdgeOn side e = (neighbour_on side e.0 ≡ e.1) × IsEdge passes e.0 e.1 e.2 e.3
 
-  edges_counted : (side : Side) (chunk : Chunk) (edges : List (ℕ × ℕ)) → AreEdges passes chunk (neighbour_on side chunk) edges → Counts (EdgeTo side chunk) (length edges)
+  edges_counted : (side : ChunkSide) (chunk : Chunk) (edges : List (ℕ × ℕ)) → AreEdges passes chunk (neighbour_on side chunk) edges → Counts (EdgeTo side chunk) (length edges)
   edges_counted side chunk edges of = (
     edges,
     (
@@ -102,7 +102,7 @@ module _ (passes : Cell → Bool) (size : Size) (tables : Tables) (inside : Pass
     ),
   )
 
-  side_tally : (side : Side) (all : List (List (ℕ × ℕ))) → AreAllEdges side passes size all
+  side_tally : (side : ChunkSide) (all : List (List (ℕ × ℕ))) → AreAllEdges side passes size all
       → Counts (EdgeOn side) (sum_by length all)
   side_tally side all of =
       let to : Chunk × (ℕ × ℕ) → Chunk × Chunk × ℕ × ℕ = λ p. (p.0, neighbour_on side p.0, p.1.0, p.1.1) in

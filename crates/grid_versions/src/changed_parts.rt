@@ -1,5 +1,5 @@
 //! The parts of a map's chunks that edits have changed.
-ghost use Rattle.std.specs.Prelude.{ℕ, ◌≡◌, ◌≢◌, ◌≤◌, ◌<◌, ◌⊎◌, All, length, slice_index, IsTrue, IsFalse, IfOk, OnOk, IfSome, IsSomeAnd};
+ghost use Rattle.std.specs.Prelude.{ℕ, ◌≡◌, ◌≢◌, ◌≤◌, ◌<◌, ◌-◌, ◌⊎◌, All, length, slice_index, IsTrue, IsFalse, IfOk, OnOk, IfSome, IsSomeAnd};
 ghost use Rattle.nav_types.specs.declared.cells.Cell.{Cell};
 ghost use Rattle.nav_types.specs.declared.cells.Size.{Size};
 ghost use Rattle.nav_types.specs.Cells.{IsInside, IsInRect, IsRectInside, cell_at, chunk_of};
@@ -79,7 +79,7 @@ fn push_part(
 }
 
 /// The least rectangle that holds all cells of the dirty part whose numbers differ. None only where there is no such cell.
-fn differing_part(dirty: Option<Rect>, before: &Patch, after: &Patch) -> Option<Rect>
+pub fn differing_part(dirty: Option<Rect>, before: &Patch, after: &Patch) -> Option<Rect>
     requires same { after.now.rect ≡ before.now.rect }
     requires dirty { IfSome dirty (IsPartOf before.now.rect) }
     ensures part { IfSome result (IsPartOf before.now.rect) }
@@ -98,8 +98,7 @@ fn differing_part(dirty: Option<Rect>, before: &Patch, after: &Patch) -> Option<
 }
 
 /// The least rectangle that holds the first one, if there is one, and the cells of row `j` of the part whose numbers
-/// differ. A row as before is seen by vectors; in another one the cells beside the first rectangle are looked at from both
-/// sides.
+/// differ. In a row that is not as before the cells beside the first rectangle are looked at from both sides.
 fn with_row(held: Option<Rect>, before: &Patch, after: &Patch, part: Rect, j: u16) -> Option<Rect>
     requires same { after.now.rect ≡ before.now.rect }
     requires held { IfSome held (IsPartOf before.now.rect) }
@@ -113,13 +112,7 @@ fn with_row(held: Option<Rect>, before: &Patch, after: &Patch, part: Rect, j: u1
     ensures row { (cell : Cell) → IsInRect part cell → cell.j ≡ j
         → number_of before.now cell ≢ number_of after.now cell → IsSomeAnd result (λ rect. IsInRect rect cell) }
 {
-    let row = Rect {
-        i0: part.i0,
-        j0: j,
-        i1: part.i1,
-        j1: j,
-    };
-    if before.differs_in(after, row) == 0 {
+    if is_same_row(before, after, part, j) {
         return held;
     }
     match held {
@@ -129,6 +122,38 @@ fn with_row(held: Option<Rect>, before: &Patch, after: &Patch, part: Rect, j: u1
         }
         None => Some(differing_cells(before, after, part, j, part.i1, part.i0)),
     }
+}
+
+/// Whether the numbers of row `j` of the part are the same.
+fn is_same_row(before: &Patch, after: &Patch, part: Rect, j: u16) -> bool
+    requires rect { after.now.rect ≡ before.now.rect }
+    requires part { IsPartOf before.now.rect part }
+    requires south { part.j0 ≤ j }
+    requires north { j ≤ part.j1 }
+    ensures { IsTrue result → (cell : Cell) → IsInRect part cell → cell.j ≡ j
+        → number_of before.now cell ≡ number_of after.now cell }
+{
+    are_same(numbers_in(before, part, j), numbers_in(after, part, j))
+}
+
+/// The numbers of row `j` of the part.
+fn numbers_in(patch: &Patch, part: Rect, j: u16) -> &[u16]
+    requires part { IsPartOf patch.now.rect part }
+    requires south { part.j0 ≤ j }
+    requires north { j ≤ part.j1 }
+    ensures { (cell : Cell) → IsInRect part cell → cell.j ≡ j
+        → slice_index result.now (cell.i - part.i0) ≡ number_of patch.now cell }
+{
+    let row = patch.row(j);
+    let first = usize::from(part.i0 - patch.rect().i0);
+    &row[first..first + usize::from(part.i1 - part.i0) + 1]
+}
+
+/// Whether the numbers of two lists are the same.
+fn are_same(one: &[u16], other: &[u16]) -> bool
+    ensures { IsTrue result → one.now ≡ other.now }
+{
+    one == other
 }
 
 /// The cells of row `j` of the part from the first whose numbers differ to the last one. Those from column `west` to

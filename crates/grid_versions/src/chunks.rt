@@ -1,3 +1,4 @@
+//! The chunks of a map: how many, in which order, and their neighbours.
 ghost use Rattle.std.specs.Prelude.{ℕ, ◌≡◌, ◌+◌, ◌<◌, ◌≤◌, IfSome, IfNone};
 ghost use Rattle.nav_types.specs.declared.limits.TheConstants.{MAX_CHUNKS_ALONG, MAX_CHUNKS};
 ghost use Rattle.grid_versions.specs.Chunks.{chunk_columns, chunk_rows, chunk_count, chunk_place};
@@ -5,7 +6,7 @@ ghost use Rattle.grid_versions.specs.inner.ChunkLists.{chunk_numbered, neighbour
 
 use nav_types::limits::CHUNK_SIDE;
 use nav_types::{Chunk, Size};
-use region_edges::Side;
+use region_edges::ChunkSide;
 
 /// How many columns of chunks a map of this size has, from 1 to `MAX_CHUNKS_ALONG`.
 pub fn columns(size: Size) -> u16
@@ -56,15 +57,15 @@ pub fn numbered(size: Size, place: u32) -> Chunk
 }
 
 /// The neighbour of a chunk on that side. None exactly where it has no cell in the map.
-pub fn neighbour(size: Size, chunk: Chunk, side: Side) -> Option<Chunk>
+pub fn neighbour(size: Size, chunk: Chunk, side: ChunkSide) -> Option<Chunk>
     requires { IsChunkInside size chunk }
     ensures some { IfSome result (λ there. there ≡ neighbour_on side chunk) }
     ensures inside { IfSome result (IsChunkInside size) }
     ensures none { IfNone result (IsChunkInside size (neighbour_on side chunk) → ⊥) }
 {
     let (ci, cj) = match side {
-        Side::East => (chunk.ci + 1, chunk.cj),
-        Side::North => (chunk.ci, chunk.cj + 1),
+        ChunkSide::East => (chunk.ci + 1, chunk.cj),
+        ChunkSide::North => (chunk.ci, chunk.cj + 1),
     };
     if ci < columns(size) && cj < rows(size) {
         Some(Chunk { cj, ci })
@@ -74,12 +75,12 @@ pub fn neighbour(size: Size, chunk: Chunk, side: Side) -> Option<Chunk>
 }
 
 /// By how much the place of a neighbour on that side is above a chunk's own, at most `MAX_CHUNKS_ALONG`.
-pub fn step_to(size: Size, side: Side) -> u32
+pub fn step_to(size: Size, side: ChunkSide) -> u32
     ensures value { (place : ℕ) → chunk_place size (neighbour_on side (chunk_numbered size place)) ≡ place + result }
     ensures few { result ≤ MAX_CHUNKS_ALONG }
 {
     match side {
-        Side::East => 1,
-        Side::North => u32::from(columns(size)),
+        ChunkSide::East => 1,
+        ChunkSide::North => u32::from(columns(size)),
     }
 }

@@ -1,13 +1,14 @@
 //! Tables of landmarks that the searches of a class have earned.
 //!
 //! ```text
-//!    searches note what they open --> a class has earned a table --> the next version has one more
+//!    searches note what they open --> a class has earned tables --> the next version has three more
 //! ```
 //!
-//! To make a table costs about what it costs to open one jump state for each third cell of the map. Where the searches of
-//! a class have opened as many since its last table, the next version gets one more, so that no match pays for tables more
-//! than it has paid for searches. Tables are those of the map where nothing stands. They serve each of its versions, since
-//! obstructions take steps away and give none, and no edit touches them.
+//! To make three tables costs about what it costs to open one jump state for each third cell of the map. Where the searches
+//! of a class have opened as many since its last tables, the next version gets three more, so that a match pays for tables at
+//! most about what it has paid for searches. One at a time would come as dear and tell less till all are there. Tables are
+//! those of the map where nothing stands. They serve each of its versions, since obstructions take steps away and give none,
+//! and no edit touches them.
 ghost use Rattle.std.specs.Prelude.{ℕ, ◌≡◌, ◌<◌, ◌≤◌, ◌^◌, length, slice_get, replicate, None, Some, IfOk, IfSome};
 ghost use Rattle.std.specs.FinMap as fin_map;
 ghost use Rattle.nav_types.specs.Cells.{IsInside};
@@ -31,7 +32,10 @@ const CELL_BYTES: usize = 2 * MAX_TABLES;
 /// The longest side of a map on which a class gets all tables; on larger ones it gets half as many.
 const LONG_SIDE: u16 = 1_024;
 
-/// For how many cells of the map one jump state has to be opened before a table is made.
+/// How many tables are made for one price.
+const TABLES_AT_ONCE: usize = 3;
+
+/// For how many cells of the map one jump state has to be opened before tables are made.
 const CELLS_A_STATE: u64 = 3;
 
 /// What the searches of a class go by, and what they have cost since that was made. Searches on all versions that share
@@ -75,7 +79,8 @@ impl Guide {
         let price = cells_of(size) as u64 / CELLS_A_STATE;
         let paid = self.account.opened() / price;
         let left = most_tables(size).saturating_sub(self.made());
-        paid.min(left as u64) as usize
+        let prices = paid.min(left as u64) as usize;
+        prices.saturating_mul(TABLES_AT_ONCE).min(left)
     }
 
     /// The same tables once more, or a list with none of them yet.

@@ -9,10 +9,10 @@ ghost use Rattle.grid_versions.specs.inner.Painting.{ArePaintedChunks};
 ghost use Rattle.grid_versions.specs.inner.Parts.{AreParts, ArePlanesBefore};
 ghost use Rattle.grid_versions.specs.inner.Reaching.{CoverChanges, NameChanges};
 
+use crate::cell_layer::CellLayer;
 use crate::changed_parts::changed_parts;
 use crate::class_tables::{Earlier, class_tables, next_tables};
 use crate::dirty_parts::DirtyParts;
-use crate::ground::Ground;
 use crate::painted_map::PaintedMap;
 use crate::relabelling::{Marks, marks_below};
 use crate::sites::Site;
@@ -30,7 +30,7 @@ use std::sync::ledger::Ledger;
 #[derive(Drop)]
 pub struct Layers {
     /// The numbers of the cells, and which obstructions reach them.
-    pub ground: Ground,
+    pub cell_layer: CellLayer,
     /// The planes of all classes.
     pub planes: Planes,
     /// The tables of each class.
@@ -45,17 +45,17 @@ impl Layers {
         ticks: &mut Ticks<L>,
     ) -> Result<Layers, NoMemory>
         requires { AllFit site.now.map.now.size site.now.shapes.now }
-        ensures parts { IfOk result (λ made. AreParts site.now.map.now site.now.shapes.now made.ground.base made.ground.reachers
-            made.ground.cells made.planes made.tables) }
+        ensures parts { IfOk result (λ made. AreParts site.now.map.now site.now.shapes.now made.cell_layer.base made.cell_layer.reachers
+            made.cell_layer.cells made.planes made.tables) }
         ensures ticks { OnOk result (ticks.new
             ≡ ticks.old + length site.now.map.now.classes * chunk_count site.now.map.now.size) }
         ensures most { ticks.new ≤ ticks.old + length site.now.map.now.classes * chunk_count site.now.map.now.size }
     {
-        let ground = Ground::build(alloc, site)?;
-        let planes = planes_of(alloc, site, &ground.cells)?;
+        let cell_layer = CellLayer::build(alloc, site)?;
+        let planes = planes_of(alloc, site, &cell_layer.cells)?;
         let tables = class_tables(alloc, site, &planes, ticks)?;
         Ok(Layers {
-            ground,
+            cell_layer,
             planes,
             tables,
         })
@@ -72,22 +72,22 @@ impl Layers {
         changes: &Changes<'_>,
         ticks: &mut Ticks<L>,
     ) -> Result<(Layers, u32), NoMemory>
-        requires parts { AreParts site.now.map.now earlier.now self.now.ground.base self.now.ground.reachers
-            self.now.ground.cells self.now.planes self.now.tables }
+        requires parts { AreParts site.now.map.now earlier.now self.now.cell_layer.base self.now.cell_layer.reachers
+            self.now.cell_layer.cells self.now.planes self.now.tables }
         requires fit { AllFit site.now.map.now.size site.now.shapes.now }
         requires sized { changes.now.dirty.now.size ≡ site.now.map.now.size }
         requires covers { CoverChanges site.now.map.now earlier.now site.now.shapes.now changes.now.dirty.now.rects }
         requires names { NameChanges site.now.map.now earlier.now site.now.shapes.now changes.now.dirty.now.rects changes.now.ids.now }
-        ensures parts { IfOk result (λ next. AreParts site.now.map.now site.now.shapes.now next.0.ground.base next.0.ground.reachers
-            next.0.ground.cells next.0.planes next.0.tables) }
+        ensures parts { IfOk result (λ next. AreParts site.now.map.now site.now.shapes.now next.0.cell_layer.base next.0.cell_layer.reachers
+            next.0.cell_layer.cells next.0.planes next.0.tables) }
         ensures relabelled { IfOk result (λ next. HasRelabelled (length site.now.map.now.classes)
             (passable_at site.now.map.now earlier.now) (passable_at site.now.map.now site.now.shapes.now) next.1) }
         ensures most { (count : ℕ) → HasRelabelled (length site.now.map.now.classes) (passable_at site.now.map.now earlier.now)
             (passable_at site.now.map.now site.now.shapes.now) count → ticks.new ≤ ticks.old + count }
     {
-        let (ground, changed) = self.ground.updated(alloc, earlier, site, changes)?;
+        let (cell_layer, changed) = self.cell_layer.updated(alloc, earlier, site, changes)?;
         let bits = changed.as_slice();
-        let planes = self.next_planes(alloc, site, &ground.cells, changes.dirty, bits)?;
+        let planes = self.next_planes(alloc, site, &cell_layer.cells, changes.dirty, bits)?;
         let marks = Marks::new(alloc, bits)?;
         let before = Earlier {
             planes: &self.planes,
@@ -97,7 +97,7 @@ impl Layers {
         let tables = next_tables(alloc, site, &planes, &before, &marks, ticks)?;
         let relabelled = marks_below(bits, site.map.classes().count());
         let layers = Layers {
-            ground,
+            cell_layer,
             planes,
             tables,
         };
@@ -118,13 +118,13 @@ impl Layers {
         requires cells { ArePaintedChunks site.now.map.now site.now.shapes.now cells.now }
         requires sized { dirty.now.size ≡ site.now.map.now.size }
         requires each { length changed.now ≡ chunk_count site.now.map.now.size }
-        requires before { ArePlanesBefore site.now.map.now site.now.shapes.now self.now.planes self.now.ground.cells
+        requires before { ArePlanesBefore site.now.map.now site.now.shapes.now self.now.planes self.now.cell_layer.cells
             dirty.now.rects changed.now }
         ensures { IfOk result (ArePlanes site.now.map.now.size (passable_at site.now.map.now site.now.shapes.now) 65535
             (length site.now.map.now.classes)) }
     {
         let painted = PaintedMap::new(site, cells);
-        let earlier = &self.ground.cells;
+        let earlier = &self.cell_layer.cells;
         let parts = changed_parts(alloc, site.map.size(), dirty, changed, earlier, cells)?;
         self.planes.updated(alloc, &painted, &parts)
     }

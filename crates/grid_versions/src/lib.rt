@@ -12,17 +12,25 @@
 //! edit reaches, compares, and makes those parts anew whose cells changed. Everything that a version tells is that of a
 //! version built from scratch out of what stands, but for the tables of landmarks that its classes have earned: these are
 //! of the map where nothing stands, and no answer depends on them. Paths are searched above, in `turn_core`.
+//!
+//! ```text
+//!    a version              versions, layers, cell_layer, planes, sites, class_views
+//!    its cells              base_grids, painting, painted_map, next_cells, reachers, chunk_bits
+//!    what an edit changes   standing_edits, dirty_parts, changed_parts, relabelling
+//!    regions to areas       chunks, tables (areas, borders, kept_numbers, labelling, sums), class_tables
+//!    landmarks              accounts, guides
+//! ```
 #![tactic(auto)]
 
 mod accounts;
 mod base_grids;
+mod cell_layer;
 mod changed_parts;
 mod chunk_bits;
 mod chunks;
 mod class_tables;
 mod class_views;
 mod dirty_parts;
-mod ground;
 mod guides;
 mod laws;
 mod layers;

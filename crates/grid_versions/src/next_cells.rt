@@ -30,7 +30,7 @@ use std::sync::Arc;
 /// What the numbers of all chunks are painted from: the map with what stands on it, the numbers under the base rectangles
 /// alone, and the obstructions that reach into each chunk.
 #[derive(Drop)]
-pub struct Source<'a> {
+pub struct CellSource<'a> {
     pub site: &'a Site<'a>,
     pub base: &'a SharedList<Patch>,
     pub reachers: &'a SharedList<Ids>,
@@ -97,7 +97,7 @@ fn next_numbers(
 /// before. Only the part is painted, and where no bit differs the old numbers are shared.
 fn next_patch(
     alloc: Global,
-    source: &Source<'_>,
+    source: &CellSource<'_>,
     before: &Before<'_>,
     part: DirtyPart,
 ) -> Result<(Arc<Patch, Global>, u16), NoMemory>
@@ -132,7 +132,7 @@ fn next_patch(
 /// of before. What no part reaches is shared.
 pub fn next_patches(
     alloc: Global,
-    source: &Source<'_>,
+    source: &CellSource<'_>,
     before: &Before<'_>,
 ) -> Result<(SharedList<Patch>, Vec<u16>), NoMemory>
     requires fit { AllFit source.now.site.now.map.now.size source.now.site.now.shapes.now }

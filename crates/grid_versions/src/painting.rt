@@ -1,5 +1,5 @@
 //! The numbers of a map's cells, chunk by chunk, from its base rectangles and its obstructions.
-ghost use Rattle.std.specs.Prelude.{ℕ, ◌≡◌, ◌<◌, ◌*◌, ◌||◌, length, IfOk, IsTrue};
+ghost use Rattle.std.specs.Prelude.{ℕ, ◌≡◌, ◌<◌, ◌*◌, ◌||◌, length, IfOk, IfSome, IsSomeAnd};
 ghost use Rattle.nav_types.specs.declared.cells.Cell.{Cell};
 ghost use Rattle.nav_types.specs.Cells.{IsInRect, IsRectInside};
 ghost use Rattle.nav_types.specs.Numbering.{IsPatch, columns, rows, number_of};
@@ -15,6 +15,7 @@ ghost use Rattle.grid_versions.specs.inner.Painting.{AreBaseChunks, ArePaintedCh
 ghost use Rattle.grid_versions.specs.inner.Reachers.{blocks_under, HaveBlocked, HoldUnpainted, AreReachers};
 
 use crate::base_grids::base_grid;
+use crate::changed_parts::differing_part;
 use crate::chunks;
 use crate::sites::Site;
 use clearance_raster::{raster_in, reach_of};
@@ -158,35 +159,51 @@ pub fn repainted_below(
 }
 
 /// Sets the bits of all obstructions in a part of a patch, until it is like another one, which has all these bits. The
-/// list has the obstructions that reach into the part, but for those that have set their bits already.
+/// list has the obstructions that reach into the part, but for those that have set their bits already. Where the part is
+/// like the other patch already, nothing more is painted, so that those which reach only there are passed over.
 fn paint_below(patch: &mut Patch, part: Rect, site: &Site<'_>, near: &[u32], most: &Patch)
     requires fit { AllFit site.now.map.now.size site.now.shapes.now }
     requires near { HoldUnpainted site.now.map.now site.now.shapes.now part (number_of patch.old) near.now }
     requires inside { IsRectInside site.now.map.now.size part }
     requires part { IsPartOf patch.old.rect part }
-    requires other { IsPartOf most.now.rect part }
+    requires other { most.now.rect ≡ patch.old.rect }
     requires most { HaveBlocked site.now.map.now site.now.shapes.now part (number_of most.now) }
     ensures rect { patch.new.rect ≡ patch.old.rect }
     ensures set { IsRasterIn patch.old.rect part (is_blocked site.now.map.now site.now.shapes.now)
         (number_of patch.old) (number_of patch.new) }
 {
+    let mut left = part;
     for (index, id) in near.iter().enumerate() {
-        if is_painted(patch, part, most, index) {
+        let Some(rest) = unlike_part(patch, left, most, index) else {
             return;
-        }
-        paint_listed(patch, part, *id, site);
+        };
+        left = rest;
+        paint_listed(patch, left, *id, site);
     }
 }
 
-/// Whether a part of a patch is like that of another one. That is looked at after so many obstructions, twice as many,
-/// four times and so on, so that it costs little beside the painting.
-fn is_painted(patch: &Patch, part: Rect, most: &Patch, index: usize) -> bool
+/// A rectangle of a part of a patch outside of which the part is like that of another patch. None only where all of it is.
+/// That is looked at after so many obstructions, twice as many, four times and so on, so that it costs little beside the
+/// painting; else it is the part itself.
+fn unlike_part(patch: &Patch, part: Rect, most: &Patch, index: usize) -> Option<Rect>
+    requires rect { most.now.rect ≡ patch.now.rect }
     requires part { IsPartOf patch.now.rect part }
-    requires other { IsPartOf most.now.rect part }
-    ensures { IsTrue result → (k : ℕ) (cell : Cell) → IsInRect part cell
+    ensures part { IfSome result (IsPartOf part) }
+    ensures like { (k : ℕ) (cell : Cell) → IsInRect part cell → ¬ IsSomeAnd result (λ rect. IsInRect rect cell)
         → has_class k (number_of patch.now cell) ≡ has_class k (number_of most.now cell) }
 {
-    index >= FIRST_LOOK && index.is_power_of_two() && patch.differs_in(most, part) == 0
+    if !is_look(index) {
+        return Some(part);
+    }
+    let Some(found) = differing_part(Some(part), patch, most) else {
+        return None;
+    };
+    found.intersection(part)
+}
+
+/// Whether it is looked at before the obstruction at this place what others have left to set.
+fn is_look(index: usize) -> bool {
+    index >= FIRST_LOOK && index.is_power_of_two()
 }
 
 /// Sets the bits of all obstructions in a part of a patch. The list has those that reach into it, but for those that

@@ -1,3 +1,4 @@
+//! What a version knows of one class: regions, region edges and areas.
 ghost use Rattle.std.specs.Prelude.{Bool, ◌≡◌, ◌+◌, ◌*◌, ◌^◌, ◌<◌, ◌≤◌, count_by, OnOk, IfOk};
 ghost use Rattle.nav_types.specs.declared.limits.TheConstants.{MAX_CHUNKS, CHUNK_CELLS};
 ghost use Rattle.nav_types.specs.declared.cells.Cell.{Cell};
@@ -23,7 +24,7 @@ use chunk_regions::Labels;
 use class_planes::ClassPlane;
 use nav_types::{Cell, NoMemory, Size, Ticks};
 use reach_sets::{AreaTable, RegionId};
-use region_edges::{Edges, Side};
+use region_edges::{ChunkSide, Edges};
 use shared_list::SharedList;
 use std::alloc::Global;
 use std::marker::Model;
@@ -74,8 +75,8 @@ impl ClassTables {
     {
         let size = plane.size();
         let labels = labelling::all_labels(alloc, plane, ticks)?;
-        let east = borders::all_edges(alloc, size, &labels, Side::East)?;
-        let north = borders::all_edges(alloc, size, &labels, Side::North)?;
+        let east = borders::all_edges(alloc, size, &labels, ChunkSide::East)?;
+        let north = borders::all_edges(alloc, size, &labels, ChunkSide::North)?;
         ClassTables::joined(alloc, size, labels, east, north)
     }
 
@@ -111,7 +112,7 @@ impl ClassTables {
             &made,
             &self.east,
             changed,
-            Side::East,
+            ChunkSide::East,
         )?;
         let (north, to_north) = borders::next_edges(
             alloc,
@@ -119,7 +120,7 @@ impl ClassTables {
             &made,
             &self.north,
             changed,
-            Side::North,
+            ChunkSide::North,
         )?;
         if counts && to_east && to_north {
             return self.relabelled(labels, east, north);

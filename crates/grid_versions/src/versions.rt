@@ -79,8 +79,8 @@ impl Model for VersionParts {
 
     ghost view = { λ v. map_state (arc_value v.map) (arc_value v.shapes) };
 
-    ghost invariant = { λ v. AreParts (arc_value v.map) (arc_value v.shapes) v.layers.ground.base v.layers.ground.reachers
-        v.layers.ground.cells v.layers.planes v.layers.tables };
+    ghost invariant = { λ v. AreParts (arc_value v.map) (arc_value v.shapes) v.layers.cell_layer.base v.layers.cell_layer.reachers
+        v.layers.cell_layer.cells v.layers.planes v.layers.tables };
 }
 
 impl Model for Version {
@@ -338,7 +338,7 @@ impl Version {
             map: &parts.map,
             shapes: &nothing,
         };
-        let bare = PaintedMap::new(&site, &parts.layers.ground.base);
+        let bare = PaintedMap::new(&site, &parts.layers.cell_layer.base);
         Ok(Arc::new(alloc, self.guides.grown(alloc, &bare, class)?)?)
     }
 
@@ -502,7 +502,7 @@ impl Rows for Version {
             map: self.map(),
             shapes: self.shapes(),
         };
-        let painted = PaintedMap::new(&site, &parts.layers.ground.cells);
+        let painted = PaintedMap::new(&site, &parts.layers.cell_layer.cells);
         painted.row_bits(j, out);
     }
 }

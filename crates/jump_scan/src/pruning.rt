@@ -85,7 +85,7 @@ fn after_diagonal<V: View>(view: &V, class: Class, cell: Cell, arrived: Dir) -> 
 
 /// A cell, and the direction of the step that came to it.
 #[derive(Clone, Copy)]
-struct Arrival {
+struct RunArrival {
     cell: Cell,
     dir: Dir,
 }
@@ -95,7 +95,7 @@ struct Arrival {
 fn with_turns<V: View>(
     view: &V,
     class: Class,
-    arrival: Arrival,
+    arrival: RunArrival,
     side: Side,
     onward: bool,
     set: DirSet,
@@ -108,7 +108,7 @@ fn with_turns<V: View>(
     ensures { (dir : Dir) → IsTrue (holds result dir)
         ↔ (IsTrue (holds set dir) ⊎ IsLegalTurn (V.passes view.now class) arrival.cell arrival.dir side dir) }
 {
-    let Arrival { cell, dir } = arrival;
+    let RunArrival { cell, dir } = arrival;
     if !is_forced_to(view, class, cell, dir, side) {
         return set;
     }
@@ -127,7 +127,7 @@ fn after_straight<V: View>(view: &V, class: Class, cell: Cell, arrived: Dir) -> 
     ensures { (dir : Dir) → IsTrue (holds result dir)
         ↔ IsSuccessor (V.passes view.now class) cell (Some arrived) dir }
 {
-    let arrival = Arrival { cell, dir: arrived };
+    let arrival = RunArrival { cell, dir: arrived };
     let onward = is_free_beside(view, class, cell, arrived);
     let ahead = DirSet::new().with_where(arrived, onward);
     let left = with_turns(view, class, arrival, Side::Left, onward, ahead);

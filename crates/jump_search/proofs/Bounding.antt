@@ -22,7 +22,7 @@ IsLeastToHit passes hit start bound =
     (target : Cell) (dirs : List Dir) → IsTrue (hit target) → IsWalk passes start dirs target → bound ≤ walk_cost dirs
 
 -- the estimate is consistent, the jumps of opened nodes have been followed, no hit is nearer than the bound, and nodes that
--- are not opened are beyond it, or, where the search is not for all, dearer than another of their cell
+-- are not opened are beyond it, or, where the search is not for all, dominated by another of their cell
 pub record IsClosed (all : Bool) (passes hit : Cell → Bool) (start : Cell) (ahead : Cell → ℕ) (bound : ℕ)
     (nodes : List Node) : Type 0 where
   pub consistent : IsConsistent passes hit ahead
@@ -55,7 +55,7 @@ pub record HasOpened (nodes : List Node) (state : JumpState) (cost : ℕ) : Type
   pub cheap : node.cost ≤ cost
   pub opened : IsTrue node.opened
 
--- a node within the bound that is not dearer than another of its cell is opened
+-- a node within the bound that is not dominated by another of its cell is opened
 pub opened_within : (all : Bool) (passes hit : Cell → Bool) (start : Cell) (ahead : Cell → ℕ) (bound : ℕ) (nodes : List Node)
     → IsClosed all passes hit start ahead bound nodes → (place : ℕ) (node : Node) → slice_get nodes place ≡ Some node
     → node.cost + ahead node.state.cell ≤ bound → (IsFalse all → IsDearer nodes node → ⊥) → IsTrue node.opened

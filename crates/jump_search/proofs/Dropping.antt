@@ -1,4 +1,4 @@
--- Taking entries of nodes that are dearer than another of their cell out of the open list.
+-- Taking entries of nodes that are dominated by another of their cell out of the open list.
 use Rattle.std.proofs.Common.{ℕ, ◌≡◌, ◌<◌, Bool, IsFalse, List, Some, inl, inr, ap, sym, subst, ◌∙◌, arith}
 use Rattle.std.specs.List.{slice_get}
 use Rattle.std.specs.FinMap as map
@@ -38,7 +38,7 @@ drops_one all nodes queue number node known not dearer = record {
   ];
 }
 
--- a node that costs more than another of its cell is dearer
+-- a node that costs more than another of its cell is dominated
 pub dearer_than : (nodes : List Node) (cell : Cell) (cost : ℕ) (node : Node) → IsAsCheap nodes cell cost
     → node.state.cell ≡ cell → cost < node.cost → IsDearer nodes node
 dearer_than nodes cell cost node cheap same less =

@@ -9,8 +9,8 @@ use Rattle.nav_types.specs.Directions.{step_cost}
 use Rattle.nav_types.specs.Frames.{IsFrame}
 use Rattle.nav_types.specs.Walks.{Step}
 use Rattle.landmarks.specs.Spans.{span_bound}
-use Rattle.jump_search.specs.declared.estimates.Ahead.{Ahead}
-use Rattle.jump_search.specs.declared.estimates.Ahead.TheVariants.{Octile, Leaving, Past}
+use Rattle.jump_search.specs.declared.estimates.TargetEstimate.{TargetEstimate}
+use Rattle.jump_search.specs.declared.estimates.TargetEstimate.TheVariants.{Octile, Leaving, Past}
 use Rattle.jump_search.specs.declared.estimates.Marked.{Marked}
 use Rattle.jump_search.specs.JumpStates.{octile_to}
 
@@ -41,7 +41,7 @@ abbrev pub cost_past : Marked → Cell → ℕ
 cost_past marked cell = max (octile_to marked.rect cell) (span_bound marked.tables.now marked.span cell)
 
 -- what is ahead of a cell: the octile distance to a rectangle, the way out of one, or what tables tell
-abbrev pub least_ahead : Ahead → Cell → ℕ
+abbrev pub least_ahead : TargetEstimate → Cell → ℕ
 least_ahead (Octile rect) = octile_to rect
 least_ahead (Leaving rect) = cost_out rect
 least_ahead (Past marked) = cost_past marked

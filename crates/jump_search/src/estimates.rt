@@ -3,7 +3,7 @@ ghost use Rattle.std.specs.Prelude.{◌≡◌, ◌+◌, ◌-◌, ◌^◌, ◌<�
 ghost use Rattle.jump_search.specs.Estimates.{cost_out, cost_past};
 
 use crate::octile::octile_to;
-use landmarks::{Landmarks, Span};
+use landmarks::{Landmarks, NumberSpan};
 use nav_types::limits::STRAIGHT_COST;
 use nav_types::{Cell, Rect};
 
@@ -28,12 +28,12 @@ pub trait Estimate {
 pub struct Marked<'a> {
     pub rect: Rect,
     pub tables: &'a Landmarks,
-    pub span: Span,
+    pub span: NumberSpan,
 }
 
 /// The estimates by which searches for a target go. They are one type, so that one search goes by any of them.
 #[derive(Drop)]
-pub enum Ahead<'a> {
+pub enum TargetEstimate<'a> {
     /// The octile distance to the rectangle of an aim.
     Octile(Rect),
     /// The way out of a rectangle in which no cell is looked for.
@@ -42,7 +42,7 @@ pub enum Ahead<'a> {
     Past(Marked<'a>),
 }
 
-impl<'a> Estimate for Ahead<'a> {
+impl<'a> Estimate for TargetEstimate<'a> {
     ghost use Rattle.jump_search.specs.Estimates.{least_ahead};
 
     ghost least = { least_ahead };
@@ -50,9 +50,9 @@ impl<'a> Estimate for Ahead<'a> {
     #[inline(always)]
     fn at_least(&self, cell: Cell) -> u64 {
         match self {
-            Ahead::Octile(rect) => octile_to(rect, cell),
-            Ahead::Leaving(rect) => cost_out(rect, cell),
-            Ahead::Past(marked) => cost_past(marked, cell),
+            TargetEstimate::Octile(rect) => octile_to(rect, cell),
+            TargetEstimate::Leaving(rect) => cost_out(rect, cell),
+            TargetEstimate::Past(marked) => cost_past(marked, cell),
         }
     }
 }

@@ -1,8 +1,9 @@
+//! The nodes of a search: each jump state that was met, with the least cost that is known.
 ghost use Rattle.std.specs.Prelude.{◌≡◌, ◌<◌, ◌≤◌, ◌⊎◌, ◌++◌, ◌∷◌, [], length, slice_get, slice_set, Some, ◌^◌};
 ghost use Rattle.std.specs.Prelude.{IsTrue, IfOk, OnOk, OnErr};
 ghost use Rattle.jump_search.specs.declared.nodes.Node.{Node};
 ghost use Rattle.jump_search.specs.inner.Numbered.{arrival_number, key_of, same_key, HasState, LacksState, IsAsCheap};
-ghost use Rattle.jump_search.specs.inner.Numbered.{IsLastInSlot, IsSearchable, AreDown, IsStanding};
+ghost use Rattle.jump_search.specs.inner.Numbered.{IsLastInSlot, IsSearchable, AreDown, IsLookup};
 ghost use Rattle.jump_search.specs.inner.Paged.{slot_of};
 
 use crate::pages::Pages;
@@ -26,11 +27,11 @@ pub struct Node {
     pub opened: bool,
 }
 
-/// How a state stands to the nodes.
+/// What is found of a state among the nodes.
 #[derive(Clone, Copy)]
-pub enum Standing {
+pub enum Lookup {
     /// A node of the state's cell costs less than the bound.
-    Dearer,
+    Dominated,
     /// The node of the number has the state.
     Known(u32),
     /// No node has the state.
@@ -93,31 +94,31 @@ fn is_cheaper(node: Node, cell: Cell, cost: u64) -> bool
     node.cost < cost && node.state.cell.j == cell.j && node.state.cell.i == cell.i
 }
 
-/// How the state stands to the node before the number `end` and those linked from there, up to the first of them that is
+/// What is found of the state in the node before the number `end` and those linked from there, up to the first of them that is
 /// of the state, or is of its cell and costs less than the bound.
-fn standing_before(
+fn look_up_before(
     list: &Vec<Node>,
     links: &Vec<u32>,
     end: u32,
     state: JumpState,
     bound: u64,
-) -> Standing
+) -> Lookup
     requires { IsSearchable list.now.items links.now.items state end }
-    ensures { IsStanding list.now.items state bound result }
+    ensures { IsLookup list.now.items state bound result }
 {
     let mut after = end;
     'walk: while after > 0 {
         let number = after - 1;
         let node = list[number as usize];
         if is_cheaper(node, state.cell, bound) {
-            return Standing::Dearer;
+            return Lookup::Dominated;
         }
         if is_same(node.state, state) {
-            return Standing::Known(number);
+            return Lookup::Known(number);
         }
         after = links[number as usize];
     }
-    Standing::New
+    Lookup::New
 }
 
 /// The node's cost, where it is of the cell and less; else the cost.
@@ -174,12 +175,12 @@ impl Nodes {
         self.links.clear();
     }
 
-    /// How the state stands to the nodes. A node of its cell that costs less than the bound is told of where it is found
+    /// What is found of the state among the nodes. A node of its cell that costs less than the bound is told of where it is found
     /// before that of the state.
-    pub(crate) fn standing(&self, state: JumpState, bound: u64) -> Standing
-        ensures { IsStanding self.now state bound result }
+    pub(crate) fn look_up(&self, state: JumpState, bound: u64) -> Lookup
+        ensures { IsLookup self.now state bound result }
     {
-        standing_before(
+        look_up_before(
             &self.list,
             &self.links,
             self.pages.get(state.cell),

@@ -9,9 +9,9 @@ ghost use Rattle.jump_search.specs.JumpStates.{octile_to, CanSearch, IsOpened, C
 ghost use Rattle.jump_search.specs.Questions.{Asked, CountsFor, IsAnswerTo, Traces};
 ghost use Rattle.jump_search.specs.inner.Traced.{IsTraceable};
 
-use crate::estimates::{Ahead, Estimate};
-use crate::framed::Framed;
-use crate::front::Front;
+use crate::bounded_aims::BoundedAim;
+use crate::estimates::{Estimate, TargetEstimate};
+use crate::frontier::Frontier;
 use crate::looks::looked;
 use crate::nodes::Nodes;
 use crate::problems::{Guided, Problem, Question};
@@ -31,7 +31,7 @@ const SMALL: usize = 262_144;
 /// take again. What a search answers does not depend on those before it, also where memory ran out in one of them.
 #[derive(Drop)]
 pub struct Pool {
-    front: Front,
+    frontier: Frontier,
     opened: u64,
 }
 
@@ -39,7 +39,7 @@ impl Pool {
     /// A pool in which nothing was searched.
     pub fn new(alloc: Global) -> Result<Pool, NoMemory> {
         Ok(Pool {
-            front: Front::new(alloc)?,
+            frontier: Frontier::new(alloc)?,
             opened: 0,
         })
     }
@@ -53,7 +53,7 @@ impl Pool {
     /// Whether the room that the pool keeps is for 2^18 jump states at most, some 16 MB with all that goes with them. Where
     /// many pools are kept, those that are not small are better let go.
     pub fn is_small(&self) -> bool {
-        self.front.nodes.room() <= SMALL
+        self.frontier.nodes.room() <= SMALL
     }
 }
 
@@ -103,7 +103,7 @@ fn found_at_start<R: Runs, A: Aim>(alloc: Global, question: &Question<'_, R, A>)
 
 /// The answer of a search by an estimate, which is for all jump states within the cost or not.
 fn answered<R: Runs, A: Aim, E: Estimate, L: Ledger>(
-    front: &mut Front,
+    frontier: &mut Frontier,
     alloc: Global,
     question: &Question<'_, R, A>,
     ahead: &E,
@@ -131,7 +131,7 @@ fn answered<R: Runs, A: Aim, E: Estimate, L: Ledger>(
         (A.framed question.now.aim.now (R.extent question.now.runs.now)) (R.extent question.now.runs.now)
         question.now.start ticks.old ticks.new }
 {
-    let framed = Framed {
+    let framed = BoundedAim {
         aim: question.aim,
         rect: question.aim.bounds(question.runs.size()),
     };
@@ -144,11 +144,11 @@ fn answered<R: Runs, A: Aim, E: Estimate, L: Ledger>(
         limit: looked(runs, class, start, &framed, &framed.rect),
         all,
     };
-    let search = searched(front, &within, ahead, ticks)?;
+    let search = searched(frontier, &within, ahead, ticks)?;
     let Some(best) = search.best else {
         unreachable!()
     };
-    let found = found(alloc, &front.nodes, start, best)?;
+    let found = found(alloc, &frontier.nodes, start, best)?;
     Ok(Traced {
         found,
         opened: search.opened,
@@ -157,7 +157,7 @@ fn answered<R: Runs, A: Aim, E: Estimate, L: Ledger>(
 
 /// The answer of a search by octile distances, which is for all jump states within the cost or not.
 fn by_octile<R: Runs, A: Aim, L: Ledger>(
-    front: &mut Front,
+    frontier: &mut Frontier,
     alloc: Global,
     question: &Question<'_, R, A>,
     all: bool,
@@ -182,12 +182,19 @@ fn by_octile<R: Runs, A: Aim, L: Ledger>(
         question.now.start ticks.old ticks.new }
 {
     let rect = question.aim.bounds(question.runs.size());
-    answered(front, alloc, question, &Ahead::Octile(rect), all, ticks)
+    answered(
+        frontier,
+        alloc,
+        question,
+        &TargetEstimate::Octile(rect),
+        all,
+        ticks,
+    )
 }
 
 /// The same answer for a caller who counts no ticks, which are those of a ledger of its own.
 fn uncounted<R: Runs, A: Aim, L: Ledger>(
-    front: &mut Front,
+    frontier: &mut Frontier,
     alloc: Global,
     question: &Question<'_, R, A>,
     all: bool,
@@ -208,12 +215,12 @@ fn uncounted<R: Runs, A: Aim, L: Ledger>(
       size = R.extent question.now.runs.now;
     } in IfOk result (λ traced. IsAnswerTo asked traced.found × (IsTrue all → CountsFor asked traced)) }
 {
-    by_octile(front, alloc, question, all, &mut Ticks::<L>::new(blank))
+    by_octile(frontier, alloc, question, all, &mut Ticks::<L>::new(blank))
 }
 
 /// The same answer to a guided question for a caller who counts no ticks, which are those of a ledger of its own.
 fn uncounted_by<R: Runs, A: Aim, E: Estimate, L: Ledger>(
-    front: &mut Front,
+    frontier: &mut Frontier,
     alloc: Global,
     guided: &Guided<'_, R, A, E>,
     blank: Blank,
@@ -234,7 +241,14 @@ fn uncounted_by<R: Runs, A: Aim, E: Estimate, L: Ledger>(
         traced.found.end traced.found.cost.0 traced.found.waypoints) }
 {
     let ticks = &mut Ticks::<L>::new(blank);
-    answered(front, alloc, &guided.question, guided.ahead, false, ticks)
+    answered(
+        frontier,
+        alloc,
+        &guided.question,
+        guided.ahead,
+        false,
+        ticks,
+    )
 }
 
 /// Jump searches for the answer to a question, which is the chosen walk from its start to the first in cell order of the
@@ -311,7 +325,7 @@ impl<'q, R: Runs, A: Aim> JumpSearch for Question<'q, R, A> {
         alloc: Global,
         ticks: &mut Ticks<L>,
     ) -> Result<Traced, NoMemory> {
-        by_octile(&mut pool.front, alloc, self, true, ticks)
+        by_octile(&mut pool.frontier, alloc, self, true, ticks)
     }
 
     fn jump_find_in<L: Ledger>(
@@ -324,13 +338,13 @@ impl<'q, R: Runs, A: Aim> JumpSearch for Question<'q, R, A> {
             pool.opened = 0;
             return Ok(found);
         }
-        let traced = by_octile(&mut pool.front, alloc, self, false, ticks)?;
+        let traced = by_octile(&mut pool.frontier, alloc, self, false, ticks)?;
         pool.opened = traced.opened;
         Ok(traced.found)
     }
 
     fn trace(&self, pool: &mut Pool, alloc: Global) -> Result<Traced, NoMemory> {
-        uncounted::<R, A, Brand>(&mut pool.front, alloc, self, true, Blank::new(1))
+        uncounted::<R, A, Brand>(&mut pool.frontier, alloc, self, true, Blank::new(1))
     }
 
     fn find(&self, pool: &mut Pool, alloc: Global) -> Result<Found, NoMemory> {
@@ -338,7 +352,13 @@ impl<'q, R: Runs, A: Aim> JumpSearch for Question<'q, R, A> {
             pool.opened = 0;
             return Ok(found);
         }
-        let traced = uncounted::<R, A, Brand>(&mut pool.front, alloc, self, false, Blank::new(1))?;
+        let traced = uncounted::<R, A, Brand>(
+            &mut pool.frontier,
+            alloc,
+            self,
+            false,
+            Blank::new(1),
+        )?;
         pool.opened = traced.opened;
         Ok(traced.found)
     }
@@ -386,7 +406,7 @@ impl<'q, R: Runs, A: Aim, E: Estimate> JumpSearch for Guided<'q, R, A, E> {
             pool.opened = 0;
             return Ok(found);
         }
-        let traced = answered(&mut pool.front, alloc, question, *ahead, false, ticks)?;
+        let traced = answered(&mut pool.frontier, alloc, question, *ahead, false, ticks)?;
         pool.opened = traced.opened;
         Ok(traced.found)
     }
@@ -400,7 +420,12 @@ impl<'q, R: Runs, A: Aim, E: Estimate> JumpSearch for Guided<'q, R, A, E> {
             pool.opened = 0;
             return Ok(found);
         }
-        let traced = uncounted_by::<R, A, E, Brand>(&mut pool.front, alloc, self, Blank::new(1))?;
+        let traced = uncounted_by::<R, A, E, Brand>(
+            &mut pool.frontier,
+            alloc,
+            self,
+            Blank::new(1),
+        )?;
         pool.opened = traced.opened;
         Ok(traced.found)
     }

@@ -12,7 +12,7 @@ ghost use Rattle.jump_search.specs.inner.Searched.{IsCostToHit};
 ghost use Rattle.jump_search.specs.inner.Underway.{IsHalted, HasEnded};
 
 use crate::estimates::Estimate;
-use crate::front::Front;
+use crate::frontier::Frontier;
 use crate::nodes::Node;
 use crate::problems::Problem;
 use crate::states::JumpState;
@@ -81,10 +81,10 @@ fn best_with<R: Runs, A: Aim>(runs: &R, aim: &A, best: Option<Best>, node: &Node
 
 impl Search {
     /// A search over no node but that of the start, which waits.
-    fn new<E: Estimate>(front: &mut Front, ahead: &E, start: Cell) -> Result<Search, NoMemory>
+    fn new<E: Estimate>(frontier: &mut Frontier, ahead: &E, start: Cell) -> Result<Search, NoMemory>
         ensures underway { IfOk result (λ search. (all : Bool) (passes hit : Cell → Bool)
-            → IsUnderway all passes hit start (E.least ahead.now) 0 front.new.nodes front.new.waiting search.best) }
-        ensures opened { IfOk result (λ search. search.opened ≡ opened_count front.new.nodes) }
+            → IsUnderway all passes hit start (E.least ahead.now) 0 frontier.new.nodes frontier.new.waiting search.best) }
+        ensures opened { IfOk result (λ search. search.opened ≡ opened_count frontier.new.nodes) }
         ensures none { IfOk result (λ search. search.opened ≡ 0) }
     {
         let state = JumpState {
@@ -97,8 +97,8 @@ impl Search {
             run: 0,
             opened: false,
         };
-        front.clear();
-        front.meet(ahead, node)?;
+        frontier.clear();
+        frontier.insert_node(ahead, node)?;
         Ok(Search {
             best: None,
             opened: 0,
@@ -107,15 +107,15 @@ impl Search {
 
     /// Takes the next entry from the open list, where its estimate is not past the best hit's cost. None where the
     /// search has ended.
-    fn next(&self, front: &mut Front) -> Option<Entry>
-        ensures nodes { front.new.nodes ≡ front.old.nodes }
-        ensures least { IfSome result (IsLeast front.old.waiting) }
-        ensures rest { IfSome result (λ entry. front.new.waiting ≡ map.remove front.old.waiting entry.key) }
+    fn next(&self, frontier: &mut Frontier) -> Option<Entry>
+        ensures nodes { frontier.new.nodes ≡ frontier.old.nodes }
+        ensures least { IfSome result (IsLeast frontier.old.waiting) }
+        ensures rest { IfSome result (λ entry. frontier.new.waiting ≡ map.remove frontier.old.waiting entry.key) }
         ensures near { IfSome result (λ entry. IsNotPast self.now.best entry.estimate) }
-        ensures past { IfNone result ((number estimate : ℕ) → map.get front.old.waiting number ≡ Some estimate
+        ensures past { IfNone result ((number estimate : ℕ) → map.get frontier.old.waiting number ≡ Some estimate
             → IsPast self.now.best estimate) }
     {
-        let Some(entry) = front.waiting.pop_least() else {
+        let Some(entry) = frontier.waiting.pop_least() else {
             return None;
         };
         if is_past(self.best, entry.estimate) {
@@ -127,7 +127,7 @@ impl Search {
     /// Opens the node of an entry that was taken from the open list, with one tick.
     fn take<R: Runs, A: Aim, E: Estimate, L: Ledger>(
         &mut self,
-        front: &mut Front,
+        frontier: &mut Frontier,
         problem: &Problem<'_, R, A>,
         ahead: &E,
         entry: Entry,
@@ -142,27 +142,27 @@ impl Search {
         requires start { IsTrue (R.passes problem.now.runs.now problem.now.class problem.now.start) }
         requires taken { (floor : ℕ) × IsTaken problem.now.all (R.passes problem.now.runs.now problem.now.class)
             (A.hit problem.now.aim.now (R.extent problem.now.runs.now)) problem.now.start (E.least ahead.now) floor
-            front.old.nodes front.old.waiting self.old.best entry }
-        requires opened { self.old.opened ≡ opened_count front.old.nodes }
+            frontier.old.nodes frontier.old.waiting self.old.best entry }
+        requires opened { self.old.opened ≡ opened_count frontier.old.nodes }
         ensures underway { OnOk result ((floor : ℕ)
             → IsTaken problem.now.all (R.passes problem.now.runs.now problem.now.class) (A.hit problem.now.aim.now
             (R.extent problem.now.runs.now)) problem.now.start (E.least ahead.now) floor
-            front.old.nodes front.old.waiting self.old.best entry
+            frontier.old.nodes frontier.old.waiting self.old.best entry
             → IsUnderway problem.now.all (R.passes problem.now.runs.now problem.now.class)
             (A.hit problem.now.aim.now (R.extent problem.now.runs.now)) problem.now.start (E.least ahead.now)
             entry.estimate
-            front.new.nodes front.new.waiting self.new.best) }
-        ensures opened { OnOk result (self.new.opened ≡ opened_count front.new.nodes) }
+            frontier.new.nodes frontier.new.waiting self.new.best) }
+        ensures opened { OnOk result (self.new.opened ≡ opened_count frontier.new.nodes) }
         ensures one { OnOk result (self.new.opened ≡ self.old.opened + 1) }
         ensures ticks { OnOk result (ticks.new + self.old.opened ≡ ticks.old + self.new.opened) }
         ensures none { OnErr result (ticks.new ≡ ticks.old) }
     {
         let node = Node {
             opened: true,
-            ..*front.nodes.at(entry.key)
+            ..*frontier.nodes.at(entry.key)
         };
-        front.nodes.put(entry.key, node);
-        front.follow(problem, ahead, &node)?;
+        frontier.nodes.put(entry.key, node);
+        frontier.follow(problem, ahead, &node)?;
         self.best = best_with(problem.runs, problem.aim, self.best, &node);
         self.opened += 1;
         ticks.tick();
@@ -171,13 +171,13 @@ impl Search {
 }
 
 /// Searches from the start until no node is left within the cost of the best hit. Where the search is for all, each
-/// node within it is opened, and else those alone that are not dearer than another of their cell. The front has the
+/// node within it is opened, and else those alone that are not dominated by another of their cell. The frontier has the
 /// nodes then, whatever it had before.
 ///
 /// Each node that is opened is one tick.
 #[inline(always)]
 pub(crate) fn searched<R: Runs, A: Aim, E: Estimate, L: Ledger>(
-    front: &mut Front,
+    frontier: &mut Frontier,
     problem: &Problem<'_, R, A>,
     ahead: &E,
     ticks: &mut Ticks<L>,
@@ -191,17 +191,17 @@ pub(crate) fn searched<R: Runs, A: Aim, E: Estimate, L: Ledger>(
         (R.extent problem.now.runs.now)) (E.least ahead.now) }
     ensures ended { IfOk result (λ search. HasEnded problem.now.all
         (R.passes problem.now.runs.now problem.now.class) (A.hit problem.now.aim.now
-        (R.extent problem.now.runs.now)) problem.now.start (E.least ahead.now) front.new.nodes search.best) }
-    ensures opened { IfOk result (λ search. search.opened ≡ opened_count front.new.nodes) }
+        (R.extent problem.now.runs.now)) problem.now.start (E.least ahead.now) frontier.new.nodes search.best) }
+    ensures opened { IfOk result (λ search. search.opened ≡ opened_count frontier.new.nodes) }
     ensures ticks { IfOk result (λ search. ticks.new ≡ ticks.old + search.opened) }
     ensures halted { OnErr result ((ticks.new ≡ ticks.old) ⊎ ((nodes : List Node)
         × ((floor : ℕ) × (IsHalted problem.now.all (R.passes problem.now.runs.now problem.now.class)
         (A.hit problem.now.aim.now (R.extent problem.now.runs.now)) problem.now.start (E.least ahead.now) floor nodes
         × (ticks.new ≡ ticks.old + opened_count nodes))))) }
 {
-    let mut search = Search::new(front, ahead, problem.start)?;
-    'search: while let Some(entry) = search.next(front) {
-        search.take(front, problem, ahead, entry, ticks)?;
+    let mut search = Search::new(frontier, ahead, problem.start)?;
+    'search: while let Some(entry) = search.next(frontier) {
+        search.take(frontier, problem, ahead, entry, ticks)?;
     }
     Ok(search)
 }

@@ -31,7 +31,7 @@ spot_of-high size cell inside =
 pub record AreKnown (passes : Cell → Bool) (size : Size) (marks : List ℕ) : Type 0 where
   pub inside : (cell : Cell) → IsTrue (passes cell) → IsInside size cell
   pub long : length marks ≡ spots size
-  pub most : (spot : ℕ) → get_or marks spot 0 ≤ 65536
+  pub most : (spot : ℕ) → get_or marks spot 0 ≤ 65535
   pub marked : (cell : Cell) → IsTrue (passes cell) → 0 < mark_of size marks cell
   pub gentle : AreAllGentle (size.w + 2) marks
 

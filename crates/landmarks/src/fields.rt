@@ -3,7 +3,7 @@ ghost use Rattle.std.specs.Prelude.{◌≡◌, ◌+◌, ◌<◌, ◌≤◌, ◌^
 ghost use Rattle.landmarks.specs.inner.Fields.{Spreads, IsInner, HasRoom};
 
 use crate::marks::clear;
-use crate::queues::Queue;
+use crate::queues::TableQueue;
 use crate::units::{DIAGONAL_UNITS, STRAIGHT_UNITS};
 use nav_types::NoMemory;
 use std::alloc::Global;
@@ -16,21 +16,21 @@ const MOST_FALLS: usize = 8;
 ///
 /// No contract says which marks are reached: they count for nothing until each step was looked at.
 #[derive(Drop)]
-pub struct Spread {
-    pub marks: Vec<u32>,
-    straight: Queue,
-    diagonal: Queue,
+pub struct TableSpread {
+    pub marks: Vec<u16>,
+    straight: TableQueue,
+    diagonal: TableQueue,
 }
 
-impl Spread {
+impl TableSpread {
     /// The marks, where no place waits.
-    pub fn over(alloc: Global, marks: Vec<u32>) -> Spread
+    pub fn over(alloc: Global, marks: Vec<u16>) -> TableSpread
         ensures { result.marks.items ≡ marks.items }
     {
-        Spread {
+        TableSpread {
             marks,
-            straight: Queue::new(alloc),
-            diagonal: Queue::new(alloc),
+            straight: TableQueue::new(alloc),
+            diagonal: TableQueue::new(alloc),
         }
     }
 
@@ -43,7 +43,7 @@ impl Spread {
 
     /// Lowers a mark to one that is less, as a straight step does.
     #[inline(always)]
-    fn lower_straight(&mut self, at: usize, mark: u32) -> Result<(), NoMemory>
+    fn lower_straight(&mut self, at: usize, mark: u16) -> Result<(), NoMemory>
         requires within { at < length self.old.marks.items }
         requires room { HasRoom self.old.marks.items }
         requires mark { 0 < mark }
@@ -63,7 +63,7 @@ impl Spread {
         at: usize,
         row: usize,
         column: usize,
-        mark: u32,
+        mark: u16,
     ) -> Result<(), NoMemory>
         requires within { at < length self.old.marks.items }
         requires row { row < length self.old.marks.items }
@@ -81,7 +81,7 @@ impl Spread {
 
     /// The mark of a place, 0 past the last one.
     #[inline(always)]
-    fn mark_at(&self, at: usize) -> u32 {
+    fn mark_at(&self, at: usize) -> u16 {
         match self.marks.get(at) {
             Some(mark) => *mark,
             None => 0,
@@ -114,7 +114,7 @@ impl Spread {
     }
 
     /// Lowers the marks round a place by the four straight steps.
-    fn relax_straight(&mut self, width: usize, at: usize, mark: u32) -> Result<(), NoMemory>
+    fn relax_straight(&mut self, width: usize, at: usize, mark: u16) -> Result<(), NoMemory>
         requires inner { IsInner width at self.old.marks.items }
         requires room { HasRoom self.old.marks.items }
         requires mark { 0 < mark }
@@ -127,7 +127,7 @@ impl Spread {
     }
 
     /// Lowers the marks round a place by the four diagonal steps.
-    fn relax_diagonal(&mut self, width: usize, at: usize, mark: u32) -> Result<(), NoMemory>
+    fn relax_diagonal(&mut self, width: usize, at: usize, mark: u16) -> Result<(), NoMemory>
         requires inner { IsInner width at self.old.marks.items }
         requires room { HasRoom self.old.marks.items }
         requires mark { 0 < mark }
@@ -148,8 +148,8 @@ impl Spread {
         ensures { OnOk result (Spreads self.old.marks.items self.new.marks.items) }
     {
         let mark = self.marks[at];
-        self.relax_straight(width, at, mark + STRAIGHT_UNITS)?;
-        self.relax_diagonal(width, at, mark + DIAGONAL_UNITS)
+        self.relax_straight(width, at, mark.saturating_add(STRAIGHT_UNITS))?;
+        self.relax_diagonal(width, at, mark.saturating_add(DIAGONAL_UNITS))
     }
 
     /// Spreads the marks from a place until none waits, and gives the place that was reached last. `width` is that of a
@@ -173,5 +173,35 @@ impl Spread {
             }
         }
         Ok(last)
+    }
+
+    /// Spreads the marks from a place until none waits.
+    pub fn run_from(&mut self, width: usize, from: usize) -> Result<(), NoMemory>
+        requires from { from < length self.old.marks.items }
+        requires wide { width + 1 < length self.old.marks.items }
+        requires room { HasRoom self.old.marks.items }
+        ensures { OnOk result (Spreads self.old.marks.items self.new.marks.items) }
+    {
+        self.run(width, from)?;
+        Ok(())
+    }
+
+    /// A place far from another: of those of passable cells the last, or the first where the other is nearer to that.
+    pub fn far_from(&self, place: usize) -> usize
+        requires { place < length self.now.marks.items }
+        ensures { result < length self.now.marks.items }
+    {
+        let count = self.marks.len();
+        for nth in 0..count {
+            let at = if place < count / 2 {
+                count - 1 - nth
+            } else {
+                nth
+            };
+            if self.marks[at] != 0 {
+                return at;
+            }
+        }
+        place
     }
 }

@@ -4,7 +4,7 @@ ghost use Rattle.nav_types.specs.declared.cells.Cell.{Cell};
 ghost use Rattle.nav_types.specs.declared.directions.Dir.{Dir};
 ghost use Rattle.nav_types.specs.Directions.{step_cost};
 ghost use Rattle.nav_types.specs.Walks.{Step, IsWalk, walk_cost};
-ghost use Rattle.landmarks.specs.declared.spans.Span.{Span};
+ghost use Rattle.landmarks.specs.declared.spans.NumberSpan.{NumberSpan};
 ghost use Rattle.landmarks.specs.Landmarks.{Tables, AreGentle, landmark_bound};
 ghost use Rattle.landmarks.specs.Spans.{IsSpanned, IsSpanOf, IsWidened, span_bound};
 
@@ -42,24 +42,24 @@ pub fn bound_is_small()
 
 /// A law: the span of a cell spans it.
 pub fn span_of_spans()
-    ensures { (tables : Tables) (cell : Cell) (span : Span) → IsSpanOf tables cell span → IsSpanned tables span cell }
+    ensures { (tables : Tables) (cell : Cell) (span : NumberSpan) → IsSpanOf tables cell span → IsSpanned tables span cell }
 {}
 
 /// A law: a span that is widened by a cell spans it, and all that it has spanned before.
 pub fn widened_spans()
-    ensures { (tables : Tables) (cell other : Cell) (old new : Span) → IsWidened tables cell old new
+    ensures { (tables : Tables) (cell other : Cell) (old new : NumberSpan) → IsWidened tables cell old new
         → IsSpanned tables new cell × (IsSpanned tables old other → IsSpanned tables new other) }
 {}
 
 /// A law: the bound from a cell to a span that spans it is 0.
 pub fn span_bound_of_spanned()
-    ensures { (tables : Tables) (span : Span) (cell : Cell) → IsSpanned tables span cell → span_bound tables span cell ≡ 0 }
+    ensures { (tables : Tables) (span : NumberSpan) (cell : Cell) → IsSpanned tables span cell → span_bound tables span cell ≡ 0 }
 {}
 
 /// A law: along a legal step the bound to a span falls by at most what the step costs, on the map for which the tables are
 /// gentle and on each in which no more cells are passable.
 pub fn span_bound_falls()
-    ensures { (tables : Tables) (span : Span) (passes later : Cell → Bool) (dir : Dir) (from next : Cell)
+    ensures { (tables : Tables) (span : NumberSpan) (passes later : Cell → Bool) (dir : Dir) (from next : Cell)
         → AreGentle passes tables → ((cell : Cell) → IsTrue (later cell) → IsTrue (passes cell))
         → Step later dir from next → span_bound tables span from ≤ step_cost dir + span_bound tables span next }
 {}

@@ -8,13 +8,15 @@
 //!
 //! In the literature this is ALT (Goldberg and Harrelson, "Computing the shortest path: A* search meets graph theory",
 //! 2005), and on grids differential heuristics (Sturtevant and others, "Memory-based heuristics for explicit state spaces",
-//! 2009). Of the tables is asked only that they are *gentle*: along a legal straight step the numbers differ by at most
-//! 12, along a diagonal one by at most 17 (`AreGentle`). That is looked at step by step before a table is taken, so that
-//! nothing rests on how its numbers were found, and a table for which it fails is left out. Tables that are gentle on a
-//! map are so on each map that lacks some of its steps: those of a map without obstructions serve with any.
+//! 2009).
+//!
+//! Of the tables is asked only that they are *gentle*: along a legal straight step the numbers differ by at most 12, along
+//! a diagonal one by at most 17 (`AreGentle`). That is looked at step by step before a table is taken, so that nothing
+//! rests on how its numbers were found, and a table for which it fails is left out. Tables that are gentle on a map are so
+//! on each map that lacks some of its steps: those of a map without obstructions serve with any.
 //!
 //! [`Landmarks`] keeps up to eight tables, 16 bytes a cell. [`Landmarks::at_least`] is the bound between two cells and
-//! [`Landmarks::at_least_to`] that to the nearest of several, by a [`Span`]. [`bound_falls`], [`span_bound_falls`] and the
+//! [`Landmarks::at_least_to`] that to the nearest of several, by a [`NumberSpan`]. [`bound_falls`], [`span_bound_falls`] and the
 //! laws beside them say what a search rests on.
 #![tactic(auto)]
 
@@ -30,6 +32,6 @@ pub use laws::{
     bound_falls, bound_is_small, bound_of_one_cell, bound_of_walk, gentle_where_fewer_pass,
     span_bound_falls, span_bound_of_spanned, span_of_spans, widened_spans,
 };
-pub use spans::Span;
+pub use spans::NumberSpan;
 pub use tables::Landmarks;
 pub use units::{DIAGONAL_UNITS, MAX_TABLES, STRAIGHT_UNITS, UNIT_COST};

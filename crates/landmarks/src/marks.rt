@@ -1,16 +1,17 @@
 //! The marks of a field: which cells are passable, and whether the numbers of neighbours are near each other.
-ghost use Rattle.std.specs.Prelude.{◌≡◌, ◌+◌, ◌<◌, ◌≤◌, ◌*◌, ◌^◌, ℕ, length, slice_index, IfOk, IsTrue};
-ghost use Rattle.std.specs.Int.{abs_diff};
+ghost use Rattle.std.specs.Prelude.{Bool, ◌≡◌, ◌+◌, ◌<◌, ◌≤◌, ◌*◌, ◌^◌, ℕ, length, slice_index, IfOk, IsTrue};
+ghost use Rattle.std.specs.Int.{abs_diff, bit_at};
 ghost use Rattle.nav_types.specs.Cells.{IsInside};
+ghost use Rattle.nav_types.specs.Rows.{bit_of};
 ghost use Rattle.landmarks.specs.Landmarks.{spot_of};
 ghost use Rattle.landmarks.specs.inner.Fields.{spots, AreMarks, AreAllGentle, IsSquareGentle, Spreads};
 
 use crate::units::{DIAGONAL_UNITS, FARTHEST, STRAIGHT_UNITS};
-use nav_types::{Cell, Class, NoMemory, Size, View};
+use nav_types::{Cell, Class, NoMemory, Rows, Size};
 use std::alloc::Global;
 
 /// The mark of a passable cell that is not reached: its number is the greatest.
-pub const FREE: u32 = FARTHEST + 1;
+pub const FREE: u16 = FARTHEST + 1;
 
 /// The place of a cell among those of the map and its border.
 #[inline(always)]
@@ -23,24 +24,34 @@ pub fn spot(size: Size, cell: Cell) -> usize
     (cell.j as usize + 1) * width + cell.i as usize + 1
 }
 
-/// Marks the passable cells of a row.
-fn mark_row<V: View>(marks: &mut Vec<u32>, view: &V, class: Class, j: u16)
+/// Whether a cell with these bits is passable: bit k is set where class k can't pass it.
+#[inline(always)]
+fn is_free(bits: u16, class: Class) -> bool
+    ensures { (passable : Bool) → bit_at bits class ≡ bit_of passable → result ≡ passable }
+{
+    (bits >> class.number()) & 1 == 0
+}
+
+/// Marks the passable cells of a row, whose bits are read into `row`.
+fn mark_row<V: Rows>(marks: &mut Vec<u16>, view: &V, class: Class, j: u16, row: &mut [u16])
     requires class { class < V.class_count view.now }
     requires row { j < (V.extent view.now).h }
+    requires wide { length row.old ≡ (V.extent view.now).w }
     requires before { AreMarks (V.passes view.now class) (V.extent view.now) 0 j marks.old.items }
-    ensures { AreMarks (V.passes view.now class) (V.extent view.now) 0 (j + 1) marks.new.items }
+    ensures stays { length row.new ≡ length row.old }
+    ensures marks { AreMarks (V.passes view.now class) (V.extent view.now) 0 (j + 1) marks.new.items }
 {
     let size = view.size();
+    view.row_bits(j, row);
     for i in 0..size.w {
-        let cell = Cell::new(i, j);
-        if view.passable(class, cell) {
-            marks[spot(size, cell)] = FREE;
+        if is_free(row[usize::from(i)], class) {
+            marks[spot(size, Cell::new(i, j))] = FREE;
         }
     }
 }
 
 /// The marks where no cell is reached.
-pub fn blank_marks<V: View>(alloc: Global, view: &V, class: Class) -> Result<Vec<u32>, NoMemory>
+pub fn blank_marks<V: Rows>(alloc: Global, view: &V, class: Class) -> Result<Vec<u16>, NoMemory>
     requires class { class < V.class_count view.now }
     ensures { IfOk result
         (λ marks. AreMarks (V.passes view.now class) (V.extent view.now) 0 (V.extent view.now).h marks.items) }
@@ -48,14 +59,15 @@ pub fn blank_marks<V: View>(alloc: Global, view: &V, class: Class) -> Result<Vec
     let size = view.size();
     let count = (size.w as usize + 2) * (size.h as usize + 2);
     let mut marks = vec![in alloc; 0; count]?;
+    let mut row = vec![in alloc; 0; usize::from(size.w)]?;
     for j in 0..size.h {
-        mark_row(&mut marks, view, class, j);
+        mark_row(&mut marks, view, class, j, &mut row);
     }
     Ok(marks)
 }
 
 /// Takes back all that was reached.
-pub fn clear(marks: &mut Vec<u32>)
+pub fn clear(marks: &mut Vec<u16>)
     ensures { Spreads marks.old.items marks.new.items }
 {
     for at in 0..marks.len() {
@@ -67,35 +79,43 @@ pub fn clear(marks: &mut Vec<u32>)
 
 /// Whether each square of two by two places is gentle: its cells' numbers differ by no more than the steps between them
 /// allow. `width` is that of a row of the table.
-pub fn is_gentle(marks: &[u32], width: usize) -> bool
+pub fn is_gentle(marks: &[u16], width: usize) -> bool
     requires { width + 1 ≤ length marks.now }
     ensures { IsTrue result → AreAllGentle width marks.now }
 {
+    let mut most = 0;
     for at in 0..marks.len() - width - 1 {
         let above = at + width;
-        if !is_square_gentle(marks[at], marks[at + 1], marks[above], marks[above + 1]) {
-            return false;
-        }
+        let here = square_excess(marks[at], marks[at + 1], marks[above], marks[above + 1]);
+        most = here.max(most);
     }
-    true
+    most == 0
 }
 
-/// Whether the numbers of four cells that share a corner are as near as the steps between them want.
+/// By how much the numbers of four cells that share a corner lie farther apart than the steps between them allow, at most.
+/// No square is asked whether it is the first such one, so that many are looked at at once.
 #[inline(always)]
-fn is_square_gentle(south_west: u32, south_east: u32, north_west: u32, north_east: u32) -> bool
-    ensures { IsTrue result → IsSquareGentle south_west south_east north_west north_east }
+fn square_excess(south_west: u16, south_east: u16, north_west: u16, north_east: u16) -> u16
+    ensures { result ≡ 0 → IsSquareGentle south_west south_east north_west north_east }
 {
-    let is_open = south_west != 0 && south_east != 0 && north_west != 0 && north_east != 0;
-    let is_diagonal_near = !is_open
-        || south_west.abs_diff(north_east) <= DIAGONAL_UNITS
-            && south_east.abs_diff(north_west) <= DIAGONAL_UNITS;
-    is_diagonal_near && is_near(south_west, south_east) && is_near(south_west, north_west)
+    let row = excess(south_west, south_east, STRAIGHT_UNITS);
+    let column = excess(south_west, north_west, STRAIGHT_UNITS);
+    let rising = excess(south_west, north_east, DIAGONAL_UNITS);
+    let falling = excess(south_east, north_west, DIAGONAL_UNITS);
+    let straight = row.max(column);
+    if south_west == 0 || south_east == 0 || north_west == 0 || north_east == 0 {
+        return straight;
+    }
+    straight.max(rising.max(falling))
 }
 
-/// Whether the marks, where both are some, differ by no more than a straight step allows.
+/// By how much two marks, where both are some, lie farther apart than is allowed.
 #[inline(always)]
-fn is_near(a: u32, b: u32) -> bool
-    ensures { IsTrue result → 0 < a → 0 < b → abs_diff a b ≤ STRAIGHT_UNITS }
+fn excess(a: u16, b: u16, allowed: u16) -> u16
+    ensures { result ≡ 0 → 0 < a → 0 < b → abs_diff a b ≤ allowed }
 {
-    a == 0 || b == 0 || a.abs_diff(b) <= STRAIGHT_UNITS
+    if a == 0 || b == 0 {
+        return 0;
+    }
+    a.abs_diff(b).saturating_sub(allowed)
 }

@@ -7,15 +7,15 @@ use std::alloc::Global;
 /// Places that wait, the first in the first out. What was taken out keeps its memory, so that all is written and read in
 /// order.
 #[derive(Drop)]
-pub struct Queue {
+pub struct TableQueue {
     places: Vec<u32>,
     head: usize,
 }
 
-impl Queue {
+impl TableQueue {
     /// The empty queue. It takes no memory yet.
-    pub fn new(alloc: Global) -> Queue {
-        Queue {
+    pub fn new(alloc: Global) -> TableQueue {
+        TableQueue {
             places: Vec::new(alloc),
             head: 0,
         }

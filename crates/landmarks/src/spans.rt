@@ -8,14 +8,14 @@ use nav_types::Cell;
 
 /// For each table the least and the greatest of the numbers that some cells have.
 #[derive(Clone, Copy, Debug, PartialEq, Eq)]
-pub struct Span {
+pub struct NumberSpan {
     pub least: [u16; MAX_TABLES],
     pub greatest: [u16; MAX_TABLES],
 }
 
 impl Landmarks {
     /// The span of one cell.
-    pub fn span_of(&self, cell: Cell) -> Span
+    pub fn span_of(&self, cell: Cell) -> NumberSpan
         ensures { IsSpanOf self.now cell result }
     {
         let numbers = self.numbers_of(cell);
@@ -23,14 +23,14 @@ impl Landmarks {
         for table in 0..MAX_TABLES {
             least[table] = numbers[table];
         }
-        Span {
+        NumberSpan {
             least,
             greatest: least,
         }
     }
 
     /// The span, widened by as much as the numbers of one cell more want.
-    pub fn widened(&self, span: &Span, cell: Cell) -> Span
+    pub fn widened(&self, span: &NumberSpan, cell: Cell) -> NumberSpan
         ensures { IsWidened self.now cell span.now result }
     {
         let numbers = self.numbers_of(cell);
@@ -40,12 +40,12 @@ impl Landmarks {
             least[table] = span.least[table].min(numbers[table]);
             greatest[table] = span.greatest[table].max(numbers[table]);
         }
-        Span { least, greatest }
+        NumberSpan { least, greatest }
     }
 
     /// What a walk from the cell to the nearest of the cells of a span costs at least, where the tables are gentle.
     #[inline(always)]
-    pub fn at_least_to(&self, from: Cell, span: &Span) -> u64
+    pub fn at_least_to(&self, from: Cell, span: &NumberSpan) -> u64
         ensures value { result ≡ span_bound self.now span.now from }
         ensures few { result < 2 ^ 40 }
     {

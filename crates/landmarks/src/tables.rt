@@ -5,15 +5,18 @@ ghost use Rattle.nav_types.specs.Cells.{IsInside};
 ghost use Rattle.landmarks.specs.Landmarks.{Tables, AreGentle, landmark_bound, number_of};
 ghost use Rattle.landmarks.specs.inner.Fields.{spots, IsWritten, IsTaken, AreWhole, HasRoom, Spreads};
 
-use crate::fields::Spread;
-use crate::marks::{blank_marks, is_gentle, spot};
+use crate::fields::TableSpread;
+use crate::marks::{FREE, blank_marks, is_gentle, spot};
 use crate::units::{FARTHEST, MAX_TABLES, UNIT_COST};
-use nav_types::{Cell, Class, NoMemory, Size, View};
+use nav_types::{Cell, Class, NoMemory, Rows, Size};
 use std::alloc::Global;
 use std::marker::Model;
 
 /// The numbers of a cell that a map does not have.
 const NO_NUMBERS: &[u16] = &[0; MAX_TABLES];
+
+/// How many places are looked at, at most, when a landmark is chosen.
+const PLACES_LOOKED_AT: usize = 16_384;
 
 /// Up to [`MAX_TABLES`] tables of landmarks of a class, 16 bytes a cell. Contracts see the size of the map, how many tables
 /// are made, and the numbers.
@@ -36,19 +39,19 @@ impl Model for Landmarks {
 }
 
 /// Writes the numbers of the marks into a table.
-fn write_table(numbers: &mut Vec<u16>, table: usize, marks: &[u32])
+fn write_table(numbers: &mut Vec<u16>, table: usize, marks: &[u16])
     requires table { table < MAX_TABLES }
     requires room { HasRoom marks.now }
     requires long { length numbers.old.items ≡ MAX_TABLES * length marks.now }
     ensures { IsWritten table (length marks.now) marks.now numbers.old.items numbers.new.items }
 {
     for at in 0..marks.len() {
-        numbers[MAX_TABLES * at + table] = marks[at].saturating_sub(1) as u16;
+        numbers[MAX_TABLES * at + table] = marks[at].saturating_sub(1);
     }
 }
 
 /// Writes the numbers of the marks into a table where each square of them is gentle.
-fn take_table(numbers: &mut Vec<u16>, table: usize, marks: &[u32], width: usize)
+fn take_table(numbers: &mut Vec<u16>, table: usize, marks: &[u16], width: usize)
     requires table { table < MAX_TABLES }
     requires room { HasRoom marks.now }
     requires long { length numbers.old.items ≡ MAX_TABLES * length marks.now }
@@ -127,7 +130,7 @@ impl Landmarks {
     /// its area. Tables that are gentle stay so, on the map that the view shows and on each that lacks some of its steps.
     ///
     /// The work grows with the map's cells. Where there is no memory the tables stay as they are.
-    pub fn add<V: View>(
+    pub fn add<V: Rows>(
         &mut self,
         alloc: Global,
         view: &V,
@@ -146,56 +149,66 @@ impl Landmarks {
         ensures err { OnErr result (self.new ≡ self.old) }
     {
         let width = self.size.w as usize + 2;
-        let mut spread = Spread::over(alloc, blank_marks(alloc, view, class)?);
-        let landmark = self.next_landmark(&mut spread, width, spot(self.size, near))?;
-        spread.run(width, landmark)?;
+        let mut spread = TableSpread::over(alloc, blank_marks(alloc, view, class)?);
+        self.spread_next(&mut spread, width, spot(self.size, near))?;
         take_table(&mut self.numbers, self.made, &spread.marks, width);
         self.made += 1;
         Ok(())
     }
 
-    /// The place of the next landmark. Its field may be spread afterwards.
-    fn next_landmark(
+    /// Spreads marks of which none is reached from the next landmark.
+    fn spread_next(
         &self,
-        spread: &mut Spread,
+        spread: &mut TableSpread,
         width: usize,
         near: usize,
-    ) -> Result<usize, NoMemory>
+    ) -> Result<(), NoMemory>
         requires near { near < length spread.old.marks.items }
         requires wide { width + 1 < length spread.old.marks.items }
         requires long { length spread.old.marks.items ≡ spots self.now.size }
         requires room { HasRoom spread.old.marks.items }
-        ensures spreads { OnOk result (Spreads spread.old.marks.items spread.new.marks.items) }
-        ensures within { IfOk result (λ at. at < length spread.old.marks.items) }
+        ensures { OnOk result (Spreads spread.old.marks.items spread.new.marks.items) }
     {
-        if self.nearest(near) < FARTHEST as u16 {
-            return Ok(self.farthest());
+        if self.nearest(near) < FARTHEST {
+            return spread.run_from(width, self.farthest());
         }
+        spread.run_from(width, spread.far_from(near))?;
+        if spread.marks[near] != FREE {
+            return Ok(());
+        }
+        spread.clear();
         let last = spread.run(width, near)?;
         spread.clear();
-        Ok(last)
+        spread.run_from(width, last)
     }
 
     /// The least of the numbers of a place in the tables that are made, which is that of the nearest landmark.
     fn nearest(&self, at: usize) -> u16
         requires { at < spots self.now.size }
     {
-        let mut least = FARTHEST as u16;
+        let mut least = FARTHEST;
         for table in 0..self.made {
             least = least.min(self.numbers[MAX_TABLES * at + table]);
         }
         least
     }
 
-    /// The place whose nearest landmark is farthest, of those that a landmark reaches.
+    /// The place whose nearest landmark is farthest, of those looked at that a landmark reaches. On a large map these lie
+    /// some places apart.
     fn farthest(&self) -> usize
         ensures { result < spots self.now.size }
     {
+        let count = self.numbers.len() / MAX_TABLES;
+        let apart = count / PLACES_LOOKED_AT + 1;
         let mut best = 0;
         let mut most = 0;
-        for at in 0..self.numbers.len() / MAX_TABLES {
+        for nth in 0..PLACES_LOOKED_AT {
+            let at = nth.saturating_mul(apart);
+            if at >= count {
+                return best;
+            }
             let least = self.nearest(at);
-            if least > most && least < FARTHEST as u16 {
+            if least > most && least < FARTHEST {
                 best = at;
                 most = least;
             }

@@ -1,3 +1,4 @@
+//! Segments between the middles of two cells, and the cells that they touch: line of sight.
 ghost use Rattle.std.specs.Prelude.{ℕ, ◌≡◌, ◌+◌, ◌*◌, ◌<◌, ◌≤◌, ◌↔◌, IfSome, IfNone, IsTrue, IsFalse};
 ghost use Rattle.nav_types.specs.declared.limits.TheConstants.{MAX_SIDE};
 ghost use Rattle.nav_types.specs.Cells.{IsInside};
@@ -10,7 +11,7 @@ use nav_types::{Axis, Cell, Class, FreeCells, cell_on, line_on, place_on};
 
 /// The places of a line from the first to the last, both of them in it.
 #[derive(Clone, Copy)]
-struct Span {
+struct TouchedSpan {
     first: u16,
     last: u16,
 }
@@ -90,7 +91,7 @@ fn is_near(wide: u32, high: u32, east: u32, north: u32) -> bool
 
 /// How far along a segment of so many places along and across the touched places of a line so far across lie.
 #[inline(always)]
-fn touched(long: u32, short: u32, across: u32) -> Span
+fn touched(long: u32, short: u32, across: u32) -> TouchedSpan
     requires long { long < MAX_SIDE }
     requires short { short < MAX_SIDE }
     requires across { across ≤ short }
@@ -99,7 +100,7 @@ fn touched(long: u32, short: u32, across: u32) -> Span
         → (2 * gap (long * across) (short * along) ≤ long + short) ↔ ((result.first ≤ along) × (along ≤ result.last)) }
 {
     if short == 0 {
-        return Span {
+        return TouchedSpan {
             first: 0,
             last: long as u16,
         };
@@ -109,7 +110,7 @@ fn touched(long: u32, short: u32, across: u32) -> Span
     let unit = 2 * short;
     let first = (middle.saturating_sub(sides) + (unit - 1)) / unit;
     let last = long.min((middle + sides) / unit);
-    Span {
+    TouchedSpan {
         first: first as u16,
         last: last as u16,
     }
@@ -134,7 +135,7 @@ impl Segment {
 
     /// The places of a line between its two cells, so far across from the first, that the segment touches.
     #[inline(always)]
-    fn span(self, line: u16, across: u32) -> Span
+    fn span(self, line: u16, across: u32) -> TouchedSpan
         requires from { IsInGrid self.from }
         requires to { IsInGrid self.to }
         requires between { IsBetween (line_on self.axis self.from) (line_on self.axis self.to) line }
@@ -148,12 +149,12 @@ impl Segment {
         let short = gap(line_on(self.axis, self.from), line_on(self.axis, self.to));
         let along = touched(gap(from, to), short, across);
         if from <= to {
-            Span {
+            TouchedSpan {
                 first: from + along.first,
                 last: from + along.last,
             }
         } else {
-            Span {
+            TouchedSpan {
                 first: from - along.last,
                 last: from - along.first,
             }

@@ -9,9 +9,9 @@ use Rattle.script_text.specs.Reader.{Held, stuck_after}
 use Rattle.script_text.specs.Pushed.{item_of, EndTold}
 use Rattle.match_play.specs.declared.states.ScriptStop.{ScriptStop}
 use Rattle.match_play.specs.declared.states.ScriptStop.TheVariants.{BadLine, TooLong}
-use Rattle.match_play.specs.declared.states.Ahead.{Ahead}
-use Rattle.match_play.specs.declared.states.Ahead.TheVariants as ahead
-use Rattle.match_play.specs.declared.states.Course.{Course}
+use Rattle.match_play.specs.declared.states.NextItem.{NextItem}
+use Rattle.match_play.specs.declared.states.NextItem.TheVariants as next_item
+use Rattle.match_play.specs.declared.states.MatchState.{MatchState}
 use Rattle.match_play.specs.declared.faults.MatchFault.{MatchFault}
 use Rattle.match_play.specs.declared.faults.MatchFault.TheVariants as fault
 use Rattle.match_play.specs.Texts.{unsaid, Gives, IsText, stop_text, ends_text, IsOut}
@@ -33,15 +33,15 @@ stop_ended : (ended : Bool) (fed : List ℕ) (items : List Item) (stop : Stop) �
 stop_ended true fed items stop stuck = stuck
 stop_ended false fed items stop stuck = ap (λ (bytes : List ℕ). reading bytes beginning) (sym (append-nil fed)) ∙ stuck []
 
-read_ended : (ended : Bool) (held : Held) (fed : List ℕ) (items : List Item) (next : Ahead) → HasRead ended held fed items next → HasRead true held fed items next
-read_ended ended held fed items ahead.Lines read = items_ended ended held fed items read
-read_ended ended held fed items (ahead.Item item) read = items_ended ended held fed (items ++ item_of item ∷ []) read
-read_ended ended held fed items (ahead.Stop stop) read = stop_ended ended fed items (stop_of stop) read
-read_ended ended held fed items (ahead.Nothing stop) read = stop_ended ended fed items (stop_of stop) read
-read_ended ended held fed items ahead.Whole read = stop_ended ended fed items whole_input read
+read_ended : (ended : Bool) (held : Held) (fed : List ℕ) (items : List Item) (next : NextItem) → HasRead ended held fed items next → HasRead true held fed items next
+read_ended ended held fed items next_item.Lines read = items_ended ended held fed items read
+read_ended ended held fed items (next_item.Item item) read = items_ended ended held fed (items ++ item_of item ∷ []) read
+read_ended ended held fed items (next_item.Stop stop) read = stop_ended ended fed items (stop_of stop) read
+read_ended ended held fed items (next_item.Nothing stop) read = stop_ended ended fed items (stop_of stop) read
+read_ended ended held fed items next_item.Whole read = stop_ended ended fed items whole_input read
 
 -- a step that takes no byte and tells nothing
-quiet : (a b : Course) → b.waiting ≡ a.waiting → b.report ≡ a.report → ((fed told : List ℕ) → HasPlayed a fed told → HasPlayed b fed told) → Plays a b [] []
+quiet : (a b : MatchState) → b.waiting ≡ a.waiting → b.report ≡ a.report → ((fed told : List ℕ) → HasPlayed a fed told → HasPlayed b fed told) → Plays a b [] []
 quiet a b waits report played = record {
   taken = [];
   took = refl;
@@ -51,27 +51,27 @@ quiet a b waits report played = record {
   played = λ fed told h. subst (λ (l : List ℕ). HasPlayed b l (told ++ [])) (sym (append-nil fed)) (subst (HasPlayed b fed) (sym (append-nil told)) (played fed told h));
 }
 
-pub plays_ended : (a : Course) → Plays a (record a { ended = true }) [] []
+pub plays_ended : (a : MatchState) → Plays a (record a { ended = true }) [] []
 plays_ended a = quiet a (record a { ended = true }) refl refl (λ fed told h.
-    record { items = h.items; text = h.text; read = read_ended a.ended a.script fed h.items a.ahead h.read; gives = h.gives; all = h.all })
+    record { items = h.items; text = h.text; read = read_ended a.ended a.script fed h.items a.next_item h.read; gives = h.gives; all = h.all })
 
 -- ---- what is left of it
 
 -- the items that were told, and what the reading goes on with
-rest_before : (a : Course) (fed : List ℕ) (items : List Item) → IsTrue a.ended → a.ahead ≡ ahead.Lines → HasRead a.ended a.script fed items a.ahead
+rest_before : (a : MatchState) (fed : List ℕ) (items : List Item) → IsTrue a.ended → a.next_item ≡ next_item.Lines → HasRead a.ended a.script fed items a.next_item
     → reading fed beginning ≡ chain (arrived items a.script.place) (λ q. reading a.script.bytes q)
 rest_before a fed items ended at read =
     let lines : ReadsItems a.ended a.script fed items = subst (HasRead a.ended a.script fed items) at read in
     subst (λ (e : Bool). ReadsItems e a.script fed items) ended lines
 
 -- all that was told where nothing waits
-told_lines : (a : Course) (fed told : List ℕ) → a.ahead ≡ ahead.Lines → (h : HasPlayed a fed told) → told ≡ h.text ++ []
-told_lines a fed told at h = h.all ∙ ap (λ (n : Ahead). h.text ++ told_stop n) at
+told_lines : (a : MatchState) (fed told : List ℕ) → a.next_item ≡ next_item.Lines → (h : HasPlayed a fed told) → told ≡ h.text ++ []
+told_lines a fed told at h = h.all ∙ ap (λ (n : NextItem). h.text ++ told_stop n) at
 
 -- what is held was the last line, which gives an item
-pub rest_item : (a : Course) (new : Held) (item : ScriptItem) → IsTrue a.ended → a.ahead ≡ ahead.Lines → EndTold a.script new (Ok (Some item))
-    → Plays a (with_ahead a new (ahead.Item item)) [] []
-rest_item a new item ended at e = quiet a (with_ahead a new (ahead.Item item)) refl refl (λ fed told h.
+pub rest_item : (a : MatchState) (new : Held) (item : ScriptItem) → IsTrue a.ended → a.next_item ≡ next_item.Lines → EndTold a.script new (Ok (Some item))
+    → Plays a (with_ahead a new (next_item.Item item)) [] []
+rest_item a new item ended at e = quiet a (with_ahead a new (next_item.Item item)) refl refl (λ fed told h.
     let next = item_of item in
     let behind = finish new.place in
     let read : reading fed beginning ≡ chain (arrived (h.items ++ next ∷ []) new.place) (λ q. reading new.bytes q) =
@@ -88,7 +88,7 @@ rest_item a new item ended at e = quiet a (with_ahead a new (ahead.Item item)) r
     })
 
 -- the reading stops there
-stuck_rest : (a : Course) (fed : List ℕ) (items : List Item) (stop : Stop) → IsTrue a.ended → a.ahead ≡ ahead.Lines → HasRead a.ended a.script fed items a.ahead
+stuck_rest : (a : MatchState) (fed : List ℕ) (items : List Item) (stop : Stop) → IsTrue a.ended → a.next_item ≡ next_item.Lines → HasRead a.ended a.script fed items a.next_item
     → reading a.script.bytes a.script.place ≡ stuck_after [] stop → StopsBehind a.ended fed items stop
 stuck_rest a fed items stop ended at read is =
     let stuck : reading fed beginning ≡ stuck_after items stop =
@@ -97,8 +97,8 @@ stuck_rest a fed items stop ended at read is =
     ∙ ap (λ (l : List Item). stuck_after l stop) (append-nil items) in
     subst (λ (x : Bool). StopsBehind x fed items stop) (sym ended) stuck
 
-pub rest_whole : (a : Course) (new : Held) → IsTrue a.ended → a.ahead ≡ ahead.Lines → EndTold a.script new (Ok None) → Plays a (with_ahead a new ahead.Whole) [] []
-rest_whole a new ended at (is, none) = quiet a (with_ahead a new ahead.Whole) refl refl (λ fed told h. record {
+pub rest_whole : (a : MatchState) (new : Held) → IsTrue a.ended → a.next_item ≡ next_item.Lines → EndTold a.script new (Ok None) → Plays a (with_ahead a new next_item.Whole) [] []
+rest_whole a new ended at (is, none) = quiet a (with_ahead a new next_item.Whole) refl refl (λ fed told h. record {
   items = h.items;
   text = h.text;
   read = stuck_rest a fed h.items whole_input ended at h.read is;
@@ -124,9 +124,9 @@ refused_by old new (met.TooLong n) stop told is =
 refused_by old new met.ReadFault stop told is = absurd told
 refused_by old new met.NoMemory stop told is = absurd (cc)
 
-pub rest_stop : (a : Course) (new : Held) (met : ScriptFault) (stop : ScriptStop) → IsTrue a.ended → a.ahead ≡ ahead.Lines → EndTold a.script new (Err met)
-    → stop_in met ≡ Some stop → Plays a (with_ahead a new (ahead.Stop stop)) [] []
-rest_stop a new met stop ended at told is = quiet a (with_ahead a new (ahead.Stop stop)) refl refl (λ fed said h. record {
+pub rest_stop : (a : MatchState) (new : Held) (met : ScriptFault) (stop : ScriptStop) → IsTrue a.ended → a.next_item ≡ next_item.Lines → EndTold a.script new (Err met)
+    → stop_in met ≡ Some stop → Plays a (with_ahead a new (next_item.Stop stop)) [] []
+rest_stop a new met stop ended at told is = quiet a (with_ahead a new (next_item.Stop stop)) refl refl (λ fed said h. record {
   items = h.items;
   text = h.text;
   read = stuck_rest a fed h.items (stop_of stop) ended at h.read (refused_by a.script new met stop told is);
@@ -141,7 +141,7 @@ kept_held old new (met.TooLong n) told none = absurd (cc)
 kept_held old new met.ReadFault told none = absurd told
 kept_held old new met.NoMemory told none = told
 
-pub rest_kept : (a : Course) (new : Held) (met : ScriptFault) → IsTrue a.ended → a.ahead ≡ ahead.Lines → EndTold a.script new (Err met) → stop_in met ≡ None
+pub rest_kept : (a : MatchState) (new : Held) (met : ScriptFault) → IsTrue a.ended → a.next_item ≡ next_item.Lines → EndTold a.script new (Err met) → stop_in met ≡ None
     → Plays a (with_script a new) [] []
 rest_kept a new met ended at told none = quiet a (with_script a new) refl refl (λ fed said h.
     let kept = kept_held a.script new met told none in
@@ -161,7 +161,7 @@ rest_kept a new met ended at told none = quiet a (with_script a new) refl refl (
 nothing_taken : (taken : List ℕ) → [] ≡ taken ++ [] → taken ≡ []
 nothing_taken taken is = sym (append-nil taken) ∙ sym is
 
-finish_by : (a b : Course) (result : Result (Unit {0}) MatchFault) → Plays a b [] [] → ((fed told : List ℕ) → HasPlayed b fed told → FinishTold b.report result fed told)
+finish_by : (a b : MatchState) (result : Result (Unit {0}) MatchFault) → Plays a b [] [] → ((fed told : List ℕ) → HasPlayed b fed told → FinishTold b.report result fed told)
     → FinishPlays a b result
 finish_by a b result p says =
     let played : (fed told : List ℕ) → HasPlayed a fed told → HasPlayed b fed (told ++ p.text) =
@@ -174,54 +174,54 @@ finish_by a b result p says =
       told = λ fed told h. subst (λ (r : Report). FinishTold r result fed (told ++ p.text)) p.report (says fed (told ++ p.text) (played fed told h));
     }
 
-pub finish_nothing : (a b : Course) → Plays a b [] [] → FinishPlays a b (Err fault.NoMemory)
+pub finish_nothing : (a b : MatchState) → Plays a b [] [] → FinishPlays a b (Err fault.NoMemory)
 finish_nothing a b p = finish_by a b (Err fault.NoMemory) p (λ fed told h. tt)
 
 -- what was told is the output text
-out_of : (m : Course) (stop : Stop) (fed told : List ℕ) (items : List Item) (text : List ℕ) → reading fed beginning ≡ stuck_after items stop
-    → Gives m.report unsaid items text (said_of m.ground) → told ≡ text ++ stop_text stop → IsWholeText m.report stop fed told
+out_of : (m : MatchState) (stop : Stop) (fed told : List ℕ) (items : List Item) (text : List ℕ) → reading fed beginning ≡ stuck_after items stop
+    → Gives m.report unsaid items text (said_of m.progress) → told ≡ text ++ stop_text stop → IsWholeText m.report stop fed told
 out_of m stop fed told items text read gives all = record {
   ends = ap (λ (w : Walk). w.ends) read;
   out =
       subst (λ (w : Walk). (body : List ℕ) × (IsText m.report w.items body × (told ≡ body ++ ends_text w.ends))) (sym read)
-      (text, ((said_of m.ground, gives), all));
+      (text, ((said_of m.progress, gives), all));
 }
 
 -- of a script that has ended by a stop, or whole
-over_text : (m : Course) (stop : Stop) (next : Ahead) (fed told : List ℕ) → IsTrue m.ended → m.ahead ≡ next → told_stop next ≡ stop_text stop
+over_text : (m : MatchState) (stop : Stop) (next : NextItem) (fed told : List ℕ) → IsTrue m.ended → m.next_item ≡ next → told_stop next ≡ stop_text stop
     → ((items : List Item) → HasRead m.ended m.script fed items next → StopsBehind m.ended fed items stop) → HasPlayed m fed told → IsWholeText m.report stop fed told
 over_text m stop next fed told ended at says stops h =
     let stuck : reading fed beginning ≡ stuck_after h.items stop =
     subst (λ (x : Bool). StopsBehind x fed h.items stop) ended (stops h.items (subst (HasRead m.ended m.script fed h.items) at h.read)) in
-    out_of m stop fed told h.items h.text stuck h.gives (h.all ∙ ap (λ (n : Ahead). h.text ++ told_stop n) at ∙ ap (λ (l : List ℕ). h.text ++ l) says)
+    out_of m stop fed told h.items h.text stuck h.gives (h.all ∙ ap (λ (n : NextItem). h.text ++ told_stop n) at ∙ ap (λ (l : List ℕ). h.text ++ l) says)
 
 told_by : (report : Report) (stop : ScriptStop) (fed told : List ℕ) → IsWholeText report (stop_of stop) fed told → FinishTold report (Err (fault_of stop)) fed told
 told_by report (BadLine n) fed told is = is
 told_by report (TooLong n) fed told is = is
 
-pub finish_whole : (a b : Course) → Plays a b [] [] → IsTrue b.ended → b.ahead ≡ ahead.Whole → FinishPlays a b (Ok tt)
-finish_whole a b p ended at = finish_by a b (Ok tt) p (λ fed told h. over_text b whole_input ahead.Whole fed told ended at refl (λ items read. read) h)
+pub finish_whole : (a b : MatchState) → Plays a b [] [] → IsTrue b.ended → b.next_item ≡ next_item.Whole → FinishPlays a b (Ok tt)
+finish_whole a b p ended at = finish_by a b (Ok tt) p (λ fed told h. over_text b whole_input next_item.Whole fed told ended at refl (λ items read. read) h)
 
 -- the stop was told, or there was no memory
-pub finish_stop : (a b : Course) (result : Result (Unit {0}) MatchFault) → Plays a b [] [] → IsTrue b.ended → TellsStop b.ahead result → FinishPlays a b result
+pub finish_stop : (a b : MatchState) (result : Result (Unit {0}) MatchFault) → Plays a b [] [] → IsTrue b.ended → TellsStop b.next_item result → FinishPlays a b result
 finish_stop a b result p ended (inl none) = subst (FinishPlays a b) (sym none) (finish_nothing a b p)
 finish_stop a b result p ended (inr (stop, (at, is))) =
     subst (FinishPlays a b) (sym is) (finish_by a b (Err (fault_of stop)) p
-    (λ fed told h. told_by b.report stop fed told (over_text b (stop_of stop) (ahead.Nothing stop) fed told ended at refl (λ items read. read) h)))
+    (λ fed told h. told_by b.report stop fed told (over_text b (stop_of stop) (next_item.Nothing stop) fed told ended at refl (λ items read. read) h)))
 
 -- the script had ended, and all was told
-over_out : (m : Course) (next : Ahead) (fed told : List ℕ) → IsTrue m.ended → m.ahead ≡ next → IsTold next → HasPlayed m fed told → IsOut m.report fed told
-over_out m ahead.Lines fed told ended at over h = absurd over
-over_out m (ahead.Item item) fed told ended at over h = absurd over
-over_out m (ahead.Stop stop) fed told ended at over h = absurd over
-over_out m (ahead.Nothing stop) fed told ended at over h = (over_text m (stop_of stop) (ahead.Nothing stop) fed told ended at refl (λ items read. read) h).out
-over_out m ahead.Whole fed told ended at over h = (over_text m whole_input ahead.Whole fed told ended at refl (λ items read. read) h).out
+over_out : (m : MatchState) (next : NextItem) (fed told : List ℕ) → IsTrue m.ended → m.next_item ≡ next → IsTold next → HasPlayed m fed told → IsOut m.report fed told
+over_out m next_item.Lines fed told ended at over h = absurd over
+over_out m (next_item.Item item) fed told ended at over h = absurd over
+over_out m (next_item.Stop stop) fed told ended at over h = absurd over
+over_out m (next_item.Nothing stop) fed told ended at over h = (over_text m (stop_of stop) (next_item.Nothing stop) fed told ended at refl (λ items read. read) h).out
+over_out m next_item.Whole fed told ended at over h = (over_text m whole_input next_item.Whole fed told ended at refl (λ items read. read) h).out
 
-pub finish_again : (a : Course) → IsOver a → FinishPlays a a (Err fault.Ended)
-finish_again a (ended, over) = finish_by a a (Err fault.Ended) (plays_none a []) (λ fed told h. over_out a a.ahead fed told ended refl over h)
+pub finish_again : (a : MatchState) → IsOver a → FinishPlays a a (Err fault.Ended)
+finish_again a (ended, over) = finish_by a a (Err fault.Ended) (plays_none a []) (λ fed told h. over_out a a.next_item fed told ended refl over h)
 
 -- a step, and then a call
-pub finish_then : (a b c : Course) (result : Result (Unit {0}) MatchFault) → Plays a b [] [] → FinishPlays b c result → FinishPlays a c result
+pub finish_then : (a b c : MatchState) (result : Result (Unit {0}) MatchFault) → Plays a b [] [] → FinishPlays b c result → FinishPlays a c result
 finish_then a b c result p f =
     let played : (fed told : List ℕ) → HasPlayed a fed told → HasPlayed b fed (told ++ p.text) =
     λ fed told h. subst (λ (l : List ℕ). HasPlayed b l (told ++ p.text)) (ap (λ (l : List ℕ). fed ++ l) (nothing_taken p.taken p.took) ∙ append-nil fed) (p.played fed told h) in
@@ -236,6 +236,6 @@ finish_then a b c result p f =
     }
 
 -- all was told, unless there was no memory
-pub stop_over : (next : Ahead) (result : Result (Unit {0}) MatchFault) → TellsStop next result → result ≢ Err fault.NoMemory → IsTold next
+pub stop_over : (next : NextItem) (result : Result (Unit {0}) MatchFault) → TellsStop next result → result ≢ Err fault.NoMemory → IsTold next
 stop_over next result (inl none) some = absurd (some none)
 stop_over next result (inr (stop, (at, is))) some = subst IsTold (sym at) tt

@@ -10,10 +10,10 @@ use Rattle.script_text.specs.Script.{Item, rules_of}
 use Rattle.script_text.specs.Reader.{Held, GoesOn, rules_at}
 use Rattle.script_text.specs.Pushed.{item_of, EndsLine, PushTold, KeepsRules, is_refused}
 use Rattle.script_text.specs.inner.Judging.{IsInTurns}
-use Rattle.match_play.specs.declared.states.Ahead.TheVariants as ahead
-use Rattle.match_play.specs.declared.states.Course.{Course}
-use Rattle.match_play.specs.declared.states.Ground.{Ground}
-use Rattle.match_play.specs.declared.states.Ground.TheVariants as ground
+use Rattle.match_play.specs.declared.states.NextItem.TheVariants as next_item
+use Rattle.match_play.specs.declared.states.MatchState.{MatchState}
+use Rattle.match_play.specs.declared.states.MatchProgress.{MatchProgress}
+use Rattle.match_play.specs.declared.states.MatchProgress.TheVariants as progress
 use Rattle.match_play.specs.Grounds.{FitsPart, turns_in}
 use Rattle.match_play.specs.inner.Fitting.{FitsAhead, IsFit, IsOpen, stop_in}
 use Rattle.match_play.proofs.Items.{fits_now, fits_then, turns_next, turns_rules}
@@ -35,9 +35,9 @@ led_by old new piece left items g going =
     led u.lines old.place items new.place u.walked
 
 -- the next item fits
-pub fits_item : (g : Ground) (old new : Held) (piece left : List ℕ) (i : ScriptItem) → IsOpen old (turns_in g) → FitsPart g old.place.part
+pub fits_item : (g : MatchProgress) (old new : Held) (piece left : List ℕ) (i : ScriptItem) → IsOpen old (turns_in g) → FitsPart g old.place.part
     → PushTold old new piece left (Ok (Some i)) → KeepsRules (rules_at old.place.part) (rules_at new.place.part) (Ok (Some i))
-    → IsFalse new.failed → IsFalse new.ended → new.place.bytes ≤ MAX_INPUT_BYTES → FitsAhead false g new (ahead.Item i)
+    → IsFalse new.failed → IsFalse new.ended → new.place.bytes ≤ MAX_INPUT_BYTES → FitsAhead false g new (next_item.Item i)
 fits_item g old new piece left i opens fits told keeps going more limit =
     let l = led_by old new (piece ++ []) (left ++ []) (item_of i ∷ []) (told []) more in
     let few = opens.few in
@@ -52,14 +52,14 @@ fits_item g old new piece left i opens fits told keeps going more limit =
           ),
     )
 
-still_fits : (g : Ground) (old new : Held) → Led old.place [] new.place → FitsPart g old.place.part → rules_at new.place.part ≡ rules_at old.place.part → FitsPart g new.place.part
-still_fits ground.Nothing old new l fits same = no_rules new.place.part (same ∙ ap rules_at fits)
-still_fits (ground.Map m) old new l fits same = same ∙ fits
-still_fits (ground.Turns v n) old new l fits same =
+still_fits : (g : MatchProgress) (old new : Held) → Led old.place [] new.place → FitsPart g old.place.part → rules_at new.place.part ≡ rules_at old.place.part → FitsPart g new.place.part
+still_fits progress.Nothing old new l fits same = no_rules new.place.part (same ∙ ap rules_at fits)
+still_fits (progress.Map m) old new l fits same = same ∙ fits
+still_fits (progress.Turns v n) old new l fits same =
     let inside : IsInTurns old.place.part = subst IsInTurns (sym fits) tt in
     turns_rules new.place.part (rules_of v.map) (l.turns inside).0 (same ∙ ap rules_at fits)
 
-fits_on : (g : Ground) (old new : Held) (piece left : List ℕ) → IsOpen old (turns_in g) → FitsPart g old.place.part → GoesOn old new piece left []
+fits_on : (g : MatchProgress) (old new : Held) (piece left : List ℕ) → IsOpen old (turns_in g) → FitsPart g old.place.part → GoesOn old new piece left []
     → rules_at new.place.part ≡ rules_at old.place.part → IsFalse new.failed → IsFalse new.ended → new.place.bytes ≤ MAX_INPUT_BYTES
     → IsOpen new (turns_in g) × FitsPart g new.place.part
 fits_on g old new piece left opens fits goes same going more limit =
@@ -70,7 +70,7 @@ fits_on g old new piece left opens fits goes same going more limit =
       still_fits g old new l fits same,
     )
 
-pub fits_lines : (g : Ground) (old new : Held) (piece left : List ℕ) → IsOpen old (turns_in g) → FitsPart g old.place.part
+pub fits_lines : (g : MatchProgress) (old new : Held) (piece left : List ℕ) → IsOpen old (turns_in g) → FitsPart g old.place.part
     → PushTold old new piece left (Ok None) → KeepsRules (rules_at old.place.part) (rules_at new.place.part) (Ok None)
     → IsFalse new.failed → IsFalse new.ended → new.place.bytes ≤ MAX_INPUT_BYTES
     → IsOpen new (turns_in g) × FitsPart g new.place.part
@@ -78,7 +78,7 @@ fits_lines g old new piece left opens fits told keeps going more limit =
     fits_on g old new (piece ++ []) (left ++ []) opens fits (told []) keeps going more limit
 
 -- and so it does where there was no memory
-pub fits_fault : (g : Ground) (old new : Held) (piece left : List ℕ) (fault : ScriptFault) → IsOpen old (turns_in g) → FitsPart g old.place.part
+pub fits_fault : (g : MatchProgress) (old new : Held) (piece left : List ℕ) (fault : ScriptFault) → IsOpen old (turns_in g) → FitsPart g old.place.part
     → stop_in fault ≡ None → PushTold old new piece left (Err fault) → KeepsRules (rules_at old.place.part) (rules_at new.place.part) (Err fault)
     → new.failed ≡ is_refused (Err fault) → IsFalse new.ended → new.place.bytes ≤ MAX_INPUT_BYTES
     → IsOpen new (turns_in g) × FitsPart g new.place.part
@@ -89,20 +89,20 @@ fits_fault g old new piece left met.NoMemory opens fits none told keeps going mo
     fits_on g old new (piece ++ []) (left ++ []) opens fits (told []) keeps going more limit
 
 -- what fits where lines come next
-pub fit_lines : (m : Course) → IsFalse m.ended → m.ahead ≡ ahead.Lines → IsFit m → IsOpen m.script (turns_in m.ground) × FitsPart m.ground m.script.place.part
+pub fit_lines : (m : MatchState) → IsFalse m.ended → m.next_item ≡ next_item.Lines → IsFit m → IsOpen m.script (turns_in m.progress) × FitsPart m.progress m.script.place.part
 fit_lines m unended at fit =
-    let lines : FitsAhead m.ended m.ground m.script ahead.Lines = subst (FitsAhead m.ended m.ground m.script) at fit in
-    subst (λ (e : Bool). FitsAhead e m.ground m.script ahead.Lines) unended lines
+    let lines : FitsAhead m.ended m.progress m.script next_item.Lines = subst (FitsAhead m.ended m.progress m.script) at fit in
+    subst (λ (e : Bool). FitsAhead e m.progress m.script next_item.Lines) unended lines
 
-pub lines_fit : (m : Course) (new : Held) → IsFalse m.ended → m.ahead ≡ ahead.Lines → IsOpen new (turns_in m.ground) × FitsPart m.ground new.place.part
+pub lines_fit : (m : MatchState) (new : Held) → IsFalse m.ended → m.next_item ≡ next_item.Lines → IsOpen new (turns_in m.progress) × FitsPart m.progress new.place.part
     → IsFit (record m { script = new })
 lines_fit m new unended at fit =
-    subst (FitsAhead m.ended m.ground new) (sym at) (subst (λ (e : Bool). FitsAhead e m.ground new ahead.Lines) (sym unended) fit)
+    subst (FitsAhead m.ended m.progress new) (sym at) (subst (λ (e : Bool). FitsAhead e m.progress new next_item.Lines) (sym unended) fit)
 
 -- what fits where an item waits
-pub item_fits : (m : Course) (new : Held) (i : ScriptItem) → IsFalse m.ended → FitsAhead false m.ground new (ahead.Item i)
-    → IsFit (record m { script = new; ahead = ahead.Item i })
-item_fits m new i unended fit = subst (λ (e : Bool). FitsAhead e m.ground new (ahead.Item i)) (sym unended) fit
+pub item_fits : (m : MatchState) (new : Held) (i : ScriptItem) → IsFalse m.ended → FitsAhead false m.progress new (next_item.Item i)
+    → IsFit (record m { script = new; next_item = next_item.Item i })
+item_fits m new i unended fit = subst (λ (e : Bool). FitsAhead e m.progress new (next_item.Item i)) (sym unended) fit
 
 -- a line was used up
 pub shorter : (old new : Held) (piece left : List ℕ) → EndsLine old new piece left → length new.bytes + length left < length old.bytes + length piece

@@ -15,8 +15,8 @@ use Rattle.script_text.specs.Script.{adds_base, ends_turn, rules_of}
 use Rattle.script_text.specs.Reader.{rules_at}
 use Rattle.script_text.specs.Pushed.{item_of, KeepsRules}
 use Rattle.script_text.specs.inner.Judging.{IsInTurns}
-use Rattle.match_play.specs.declared.states.Ground.{Ground}
-use Rattle.match_play.specs.declared.states.Ground.TheVariants as ground
+use Rattle.match_play.specs.declared.states.MatchProgress.{MatchProgress}
+use Rattle.match_play.specs.declared.states.MatchProgress.TheVariants as progress
 use Rattle.match_play.specs.Texts.{IsTurnText, with_turn}
 use Rattle.match_play.specs.Grounds.{said_of, turns_in, FitsTurn, FitsItem, FitsPart, AddsBase, AddsTurn, Becomes, Tells}
 use Rattle.match_play.specs.Playing.{IsView}
@@ -43,83 +43,83 @@ keeps old now rules i is keep = subst (λ (r : Option Rules). KeepsRules r (rule
 -- ---- the next item
 
 -- the next item fits
-pub fits_now : (g : Ground) (old now : Part) (i : ScriptItem) → FitsPart g old → KeepsRules (rules_at old) (rules_at now) (Ok (Some i))
+pub fits_now : (g : MatchProgress) (old now : Part) (i : ScriptItem) → FitsPart g old → KeepsRules (rules_at old) (rules_at now) (Ok (Some i))
     → (IsInTurns old → AreTurns (item_of i ∷ [])) → turns_in g < 2 ^ 32 → FitsItem g i
-fits_now ground.Nothing old now (item.Map m) fits keep turns few = tt
-fits_now ground.Nothing old now (item.Base rects) fits keep turns few = absurd (keeps old now None (item.Base rects) (ap rules_at fits) keep)
-fits_now ground.Nothing old now (item.Turn posts) fits keep turns few = absurd (keeps old now None (item.Turn posts) (ap rules_at fits) keep)
-fits_now (ground.Map m) old now (item.Map other) fits keep turns few = absurd (keeps old now (Some (rules_of m)) (item.Map other) fits keep)
-fits_now (ground.Map m) old now (item.Base rects) fits keep turns few = (keeps old now (Some (rules_of m)) (item.Base rects) fits keep).1
-fits_now (ground.Map m) old now (item.Turn posts) fits keep turns few = tt
-fits_now (ground.Turns v n) old now (item.Map other) fits keep turns few =
+fits_now progress.Nothing old now (item.Map m) fits keep turns few = tt
+fits_now progress.Nothing old now (item.Base rects) fits keep turns few = absurd (keeps old now None (item.Base rects) (ap rules_at fits) keep)
+fits_now progress.Nothing old now (item.Turn posts) fits keep turns few = absurd (keeps old now None (item.Turn posts) (ap rules_at fits) keep)
+fits_now (progress.Map m) old now (item.Map other) fits keep turns few = absurd (keeps old now (Some (rules_of m)) (item.Map other) fits keep)
+fits_now (progress.Map m) old now (item.Base rects) fits keep turns few = (keeps old now (Some (rules_of m)) (item.Base rects) fits keep).1
+fits_now (progress.Map m) old now (item.Turn posts) fits keep turns few = tt
+fits_now (progress.Turns v n) old now (item.Map other) fits keep turns few =
     absurd (keeps old now (Some (rules_of v.map)) (item.Map other) (ap rules_at fits) keep)
-fits_now (ground.Turns v n) old now (item.Base rects) fits keep turns few =
+fits_now (progress.Turns v n) old now (item.Base rects) fits keep turns few =
     let inside : IsInTurns old = subst IsInTurns (sym fits) tt in
     absurd (turns inside)
-fits_now (ground.Turns v n) old now (item.Turn posts) fits keep turns few = few
+fits_now (progress.Turns v n) old now (item.Turn posts) fits keep turns few = few
 
 -- what it makes of what stands goes with the part behind it
-pub fits_then : (g next : Ground) (old now : Part) (i : ScriptItem) → FitsPart g old → KeepsRules (rules_at old) (rules_at now) (Ok (Some i))
+pub fits_then : (g next : MatchProgress) (old now : Part) (i : ScriptItem) → FitsPart g old → KeepsRules (rules_at old) (rules_at now) (Ok (Some i))
     → (HasTurn (item_of i ∷ []) → IsInTurns now) → Becomes g i next → FitsPart next now
-fits_then ground.Nothing next old now (item.Map m) fits keep begun is =
-    subst (λ (n : Ground). FitsPart n now) (sym is) (keeps old now None (item.Map m) (ap rules_at fits) keep)
-fits_then ground.Nothing next old now (item.Base rects) fits keep begun is = absurd is
-fits_then ground.Nothing next old now (item.Turn posts) fits keep begun is = absurd (keeps old now None (item.Turn posts) (ap rules_at fits) keep)
-fits_then (ground.Map m) next old now (item.Map other) fits keep begun is = absurd (keeps old now (Some (rules_of m)) (item.Map other) fits keep)
-fits_then (ground.Map m) next old now (item.Base rects) fits keep begun is =
-    subst (λ (n : Ground). FitsPart n now) (sym is) (keeps old now (Some (rules_of m)) (item.Base rects) fits keep).0
-fits_then (ground.Map m) next old now (item.Turn posts) fits keep begun (v, (is, map)) =
+fits_then progress.Nothing next old now (item.Map m) fits keep begun is =
+    subst (λ (n : MatchProgress). FitsPart n now) (sym is) (keeps old now None (item.Map m) (ap rules_at fits) keep)
+fits_then progress.Nothing next old now (item.Base rects) fits keep begun is = absurd is
+fits_then progress.Nothing next old now (item.Turn posts) fits keep begun is = absurd (keeps old now None (item.Turn posts) (ap rules_at fits) keep)
+fits_then (progress.Map m) next old now (item.Map other) fits keep begun is = absurd (keeps old now (Some (rules_of m)) (item.Map other) fits keep)
+fits_then (progress.Map m) next old now (item.Base rects) fits keep begun is =
+    subst (λ (n : MatchProgress). FitsPart n now) (sym is) (keeps old now (Some (rules_of m)) (item.Base rects) fits keep).0
+fits_then (progress.Map m) next old now (item.Turn posts) fits keep begun (v, (is, map)) =
     let inside = turns_rules now (rules_of m) (begun tt) (keeps old now (Some (rules_of m)) (item.Turn posts) fits keep).0 in
-    subst (λ (n : Ground). FitsPart n now) (sym is) (inside ∙ ap (λ (x : Map). InTurns (rules_of x)) (maps_same m v.map map))
-fits_then (ground.Turns w n) next old now (item.Map other) fits keep begun is =
+    subst (λ (n : MatchProgress). FitsPart n now) (sym is) (inside ∙ ap (λ (x : Map). InTurns (rules_of x)) (maps_same m v.map map))
+fits_then (progress.Turns w n) next old now (item.Map other) fits keep begun is =
     absurd (keeps old now (Some (rules_of w.map)) (item.Map other) (ap rules_at fits) keep)
-fits_then (ground.Turns w n) next old now (item.Base rects) fits keep begun is = absurd is
-fits_then (ground.Turns w n) next old now (item.Turn posts) fits keep begun (v, (is, map)) =
+fits_then (progress.Turns w n) next old now (item.Base rects) fits keep begun is = absurd is
+fits_then (progress.Turns w n) next old now (item.Turn posts) fits keep begun (v, (is, map)) =
     let inside = turns_rules now (rules_of w.map) (begun tt) (keeps old now (Some (rules_of w.map)) (item.Turn posts) (ap rules_at fits) keep).0 in
-    subst (λ (n : Ground). FitsPart n now) (sym is) (inside ∙ ap (λ (x : Map). InTurns (rules_of x)) (maps_same w.map v.map map))
+    subst (λ (n : MatchProgress). FitsPart n now) (sym is) (inside ∙ ap (λ (x : Map). InTurns (rules_of x)) (maps_same w.map v.map map))
 
 -- at most one turn more was told
-pub turns_next : (g next : Ground) (i : ScriptItem) → Becomes g i next → turns_in next ≤ turns_in g + 1
+pub turns_next : (g next : MatchProgress) (i : ScriptItem) → Becomes g i next → turns_in next ≤ turns_in g + 1
 turns_next g next (item.Map m) is = let turns = ap turns_in is in omega (arith, turns)
-turns_next ground.Nothing next (item.Base rects) is = absurd is
-turns_next (ground.Map m) next (item.Base rects) is = let turns = ap turns_in is in omega (arith, turns)
-turns_next (ground.Turns v n) next (item.Base rects) is = absurd is
+turns_next progress.Nothing next (item.Base rects) is = absurd is
+turns_next (progress.Map m) next (item.Base rects) is = let turns = ap turns_in is in omega (arith, turns)
+turns_next (progress.Turns v n) next (item.Base rects) is = absurd is
 turns_next g next (item.Turn posts) (v, (is, map)) = let turns = ap turns_in is in omega (arith, turns)
 
 -- ---- where a turn may come
 
 -- the map has come
-pub has_map : (g : Ground) → FitsTurn g → (said_of g).map ≡ None → ⊥
-has_map ground.Nothing fits none = fits
-has_map (ground.Map m) fits none = cc
-has_map (ground.Turns v n) fits none = cc
+pub has_map : (g : MatchProgress) → FitsTurn g → (said_of g).map ≡ None → ⊥
+has_map progress.Nothing fits none = fits
+has_map (progress.Map m) fits none = cc
+has_map (progress.Turns v n) fits none = cc
 
 -- there were few turns
-pub few_turns : (g : Ground) → FitsTurn g → turns_in g < 2 ^ 32
-few_turns ground.Nothing fits = absurd fits
-few_turns (ground.Map m) fits = omega arith
-few_turns (ground.Turns v n) fits = fits
+pub few_turns : (g : MatchProgress) → FitsTurn g → turns_in g < 2 ^ 32
+few_turns progress.Nothing fits = absurd fits
+few_turns (progress.Map m) fits = omega arith
+few_turns (progress.Turns v n) fits = fits
 
 -- ---- what is told of an item
 
-pub map_told : (report : Report) (g : Ground) (m : Map) (waits : List ℕ) → FitsItem g (item.Map m) → Tells report (said_of g) (item_of (item.Map m)) (said_of (ground.Map m)) waits waits
-map_told report ground.Nothing m waits fits = ([], ((refl, refl), sym (append-nil waits)))
-map_told report (ground.Map other) m waits fits = absurd fits
-map_told report (ground.Turns v n) m waits fits = absurd fits
+pub map_told : (report : Report) (g : MatchProgress) (m : Map) (waits : List ℕ) → FitsItem g (item.Map m) → Tells report (said_of g) (item_of (item.Map m)) (said_of (progress.Map m)) waits waits
+map_told report progress.Nothing m waits fits = ([], ((refl, refl), sym (append-nil waits)))
+map_told report (progress.Map other) m waits fits = absurd fits
+map_told report (progress.Turns v n) m waits fits = absurd fits
 
-pub base_told : (report : Report) (g new : Ground) (rects : List (Rect × ℕ)) (waits : List ℕ) → AddsBase g rects new
+pub base_told : (report : Report) (g new : MatchProgress) (rects : List (Rect × ℕ)) (waits : List ℕ) → AddsBase g rects new
     → Tells report (said_of g) (adds_base rects) (said_of new) waits waits
-base_told report ground.Nothing new rects waits adds = absurd adds
-base_told report (ground.Map m) new rects waits is = ([], ((refl, ap said_of is), sym (append-nil waits)))
-base_told report (ground.Turns v n) new rects waits adds = absurd adds
+base_told report progress.Nothing new rects waits adds = absurd adds
+base_told report (progress.Map m) new rects waits is = ([], ((refl, ap said_of is), sym (append-nil waits)))
+base_told report (progress.Turns v n) new rects waits adds = absurd adds
 
 -- the text of a turn that was answered on the version that stands
-pub turn_told : (report : Report) (g : Ground) (version v : MapState) (n : ℕ) (posts : List (List Post)) (text before waits : List ℕ) → IsView (said_of g) (Some version)
+pub turn_told : (report : Report) (g : MatchProgress) (version v : MapState) (n : ℕ) (posts : List (List Post)) (text before waits : List ℕ) → IsView (said_of g) (Some version)
     → v.map ≡ version.map → v.standing ≡ after_turn version.map version.standing posts → n ≡ turns_in g + 1 → IsTurnText report version.map version.standing n posts text
-    → waits ≡ before ++ text → Tells report (said_of g) (ends_turn posts) (said_of (ground.Turns v n)) before waits
+    → waits ≡ before ++ text → Tells report (said_of g) (ends_turn posts) (said_of (progress.Turns v n)) before waits
 turn_told report g version v n posts text before waits (at, stands) map standing turns is told =
     let s = said_of g in
-    let now : said_of (ground.Turns v n) ≡ with_turn s version.map posts =
+    let now : said_of (progress.Turns v n) ≡ with_turn s version.map posts =
     λ j. record { map = (ap (λ (m : Map). Some m) map ∙ sym at) j; standing = (standing ∙ ap (λ (t : Standing). after_turn version.map t posts) stands) j; turns = turns j } in
     let here : IsTurnText report version.map s.standing (turns_in g + 1) posts text =
     subst (λ (t : Standing). IsTurnText report version.map t (turns_in g + 1) posts text) stands
@@ -127,7 +127,7 @@ turn_told report g version v n posts text before waits (at, stands) map standing
     (text, ((version.map, (at, (here, now))), told))
 
 -- what stands then
-pub turn_becomes : (g : Ground) (version v : MapState) (n : ℕ) → IsView (said_of g) (Some version) → v.map ≡ version.map → n ≡ turns_in g + 1
-    → AddsTurn g (ground.Turns v n)
+pub turn_becomes : (g : MatchProgress) (version v : MapState) (n : ℕ) → IsView (said_of g) (Some version) → v.map ≡ version.map → n ≡ turns_in g + 1
+    → AddsTurn g (progress.Turns v n)
 turn_becomes g version v n (at, stands) map turns =
-    (v, (ap (λ (k : ℕ). ground.Turns v k) turns, at ∙ ap (λ (m : Map). Some m) (sym map)))
+    (v, (ap (λ (k : ℕ). progress.Turns v k) turns, at ∙ ap (λ (m : Map). Some m) (sym map)))

@@ -20,11 +20,11 @@ use Rattle.script_text.specs.Reader.{Held, rules_at}
 use Rattle.script_text.specs.Pushed.{item_of, EndTold, KeepsRules, is_refused}
 use Rattle.script_text.specs.inner.Judging.{IsInTurns}
 use Rattle.script_text.proofs.ReadWalk.{chain-assoc}
-use Rattle.match_play.specs.declared.states.Ahead.{Ahead}
-use Rattle.match_play.specs.declared.states.Ahead.TheVariants as ahead
-use Rattle.match_play.specs.declared.states.Ground.{Ground}
-use Rattle.match_play.specs.declared.states.Ground.TheVariants as ground
-use Rattle.match_play.specs.declared.states.Course.{Course}
+use Rattle.match_play.specs.declared.states.NextItem.{NextItem}
+use Rattle.match_play.specs.declared.states.NextItem.TheVariants as next_item
+use Rattle.match_play.specs.declared.states.MatchProgress.{MatchProgress}
+use Rattle.match_play.specs.declared.states.MatchProgress.TheVariants as progress
+use Rattle.match_play.specs.declared.states.MatchState.{MatchState}
 use Rattle.match_play.specs.Grounds.{FitsPart, turns_in}
 use Rattle.match_play.specs.inner.Fitting.{FitsAhead, FitsLines, IsFit, IsGoing, IsLast, IsStopped, stop_in}
 use Rattle.match_play.specs.Playing.{IsTold}
@@ -167,8 +167,8 @@ first_turns (ends_turn posts) more are = tt
 first_turns (adds_base rects) more are = absurd are
 first_turns (begins m) more are = absurd are
 
-pub rest_next : (g : Ground) (old new : Held) (i : ScriptItem) → IsLast old (turns_in g) (FitsPart g old.place.part) → LastTold old new i
-    → KeepsRules (rules_at old.place.part) (rules_at new.place.part) (Ok (Some i)) → IsFalse new.failed → FitsAhead true g new (ahead.Item i)
+pub rest_next : (g : MatchProgress) (old new : Held) (i : ScriptItem) → IsLast old (turns_in g) (FitsPart g old.place.part) → LastTold old new i
+    → KeepsRules (rules_at old.place.part) (rules_at new.place.part) (Ok (Some i)) → IsFalse new.failed → FitsAhead true g new (next_item.Item i)
 rest_next g old new i last e keeps going =
     let some = some_bytes old new i e in
     let items = held_items old new i e in
@@ -187,7 +187,7 @@ may_go_on old new met.ReadFault told none = absurd told
 may_go_on old new met.NoMemory told none = refl
 
 -- there was no memory
-pub rest_stays : (g : Ground) (old new : Held) (fault : ScriptFault) → IsLast old (turns_in g) (FitsPart g old.place.part) → EndTold old new (Err fault)
+pub rest_stays : (g : MatchProgress) (old new : Held) (fault : ScriptFault) → IsLast old (turns_in g) (FitsPart g old.place.part) → EndTold old new (Err fault)
     → stop_in fault ≡ None → new.failed ≡ is_refused (Err fault) → IsLast new (turns_in g) (FitsPart g new.place.part)
 rest_stays g old new fault last told none failed =
     let kept = kept_held old new fault told none in
@@ -199,36 +199,36 @@ rest_stays g old new fault last told none failed =
 
 -- ---- what fits a script that ends
 
-lines_ended : (ended : Bool) (g : Ground) (held : Held) → FitsLines ended g held → FitsLines true g held
+lines_ended : (ended : Bool) (g : MatchProgress) (held : Held) → FitsLines ended g held → FitsLines true g held
 lines_ended true g held fits = fits
 lines_ended false g held (opens, fits) = record { going = opens.going; few = λ some. opens.few; fits = λ some. fits }
 
-pub fits_ended : (ended : Bool) (g : Ground) (held : Held) (next : Ahead) → FitsAhead ended g held next → FitsAhead true g held next
-fits_ended ended g held ahead.Lines fits = lines_ended ended g held fits
-fits_ended ended g held (ahead.Item i) (fits, then) = (fits, λ next is. lines_ended ended next held (then next is))
-fits_ended ended g held (ahead.Stop stop) fits = tt
-fits_ended ended g held (ahead.Nothing stop) fits = tt
-fits_ended ended g held ahead.Whole fits = refl
+pub fits_ended : (ended : Bool) (g : MatchProgress) (held : Held) (next : NextItem) → FitsAhead ended g held next → FitsAhead true g held next
+fits_ended ended g held next_item.Lines fits = lines_ended ended g held fits
+fits_ended ended g held (next_item.Item i) (fits, then) = (fits, λ next is. lines_ended ended next held (then next is))
+fits_ended ended g held (next_item.Stop stop) fits = tt
+fits_ended ended g held (next_item.Nothing stop) fits = tt
+fits_ended ended g held next_item.Whole fits = refl
 
 -- what fits where lines come next
-pub last_lines : (m : Course) → IsTrue m.ended → m.ahead ≡ ahead.Lines → IsFit m → IsLast m.script (turns_in m.ground) (FitsPart m.ground m.script.place.part)
+pub last_lines : (m : MatchState) → IsTrue m.ended → m.next_item ≡ next_item.Lines → IsFit m → IsLast m.script (turns_in m.progress) (FitsPart m.progress m.script.place.part)
 last_lines m ended at fit =
-    let lines : FitsAhead m.ended m.ground m.script ahead.Lines = subst (FitsAhead m.ended m.ground m.script) at fit in
-    subst (λ (e : Bool). FitsAhead e m.ground m.script ahead.Lines) ended lines
+    let lines : FitsAhead m.ended m.progress m.script next_item.Lines = subst (FitsAhead m.ended m.progress m.script) at fit in
+    subst (λ (e : Bool). FitsAhead e m.progress m.script next_item.Lines) ended lines
 
-pub lines_last : (m : Course) (new : Held) → IsTrue m.ended → m.ahead ≡ ahead.Lines → IsLast new (turns_in m.ground) (FitsPart m.ground new.place.part)
+pub lines_last : (m : MatchState) (new : Held) → IsTrue m.ended → m.next_item ≡ next_item.Lines → IsLast new (turns_in m.progress) (FitsPart m.progress new.place.part)
     → IsFit (record m { script = new })
 lines_last m new ended at last =
-    subst (FitsAhead m.ended m.ground new) (sym at) (subst (λ (e : Bool). FitsAhead e m.ground new ahead.Lines) (sym ended) last)
+    subst (FitsAhead m.ended m.progress new) (sym at) (subst (λ (e : Bool). FitsAhead e m.progress new next_item.Lines) (sym ended) last)
 
 -- a script that has not stopped, of which not all was told, goes on
-pub going_on : (ended : Bool) (g : Ground) (held : Held) (next : Ahead) → FitsAhead ended g held next → (IsStopped next → ⊥) → (IsTrue ended → IsTold next → ⊥) → IsGoing next
-going_on ended g held ahead.Lines fits stopped over = tt
-going_on ended g held (ahead.Item i) fits stopped over = tt
-going_on ended g held (ahead.Stop stop) fits stopped over = absurd (stopped tt)
-going_on ended g held (ahead.Nothing stop) fits stopped over = absurd (stopped tt)
-going_on ended g held ahead.Whole fits stopped over = absurd (over fits tt)
+pub going_on : (ended : Bool) (g : MatchProgress) (held : Held) (next : NextItem) → FitsAhead ended g held next → (IsStopped next → ⊥) → (IsTrue ended → IsTold next → ⊥) → IsGoing next
+going_on ended g held next_item.Lines fits stopped over = tt
+going_on ended g held (next_item.Item i) fits stopped over = tt
+going_on ended g held (next_item.Stop stop) fits stopped over = absurd (stopped tt)
+going_on ended g held (next_item.Nothing stop) fits stopped over = absurd (stopped tt)
+going_on ended g held next_item.Whole fits stopped over = absurd (over fits tt)
 
 -- and where an item waits
-pub item_last : (m : Course) (new : Held) (i : ScriptItem) → IsTrue m.ended → FitsAhead true m.ground new (ahead.Item i) → IsFit (record m { script = new; ahead = ahead.Item i })
-item_last m new i ended fit = subst (λ (e : Bool). FitsAhead e m.ground new (ahead.Item i)) (sym ended) fit
+pub item_last : (m : MatchState) (new : Held) (i : ScriptItem) → IsTrue m.ended → FitsAhead true m.progress new (next_item.Item i) → IsFit (record m { script = new; next_item = next_item.Item i })
+item_last m new i ended fit = subst (λ (e : Bool). FitsAhead e m.progress new (next_item.Item i)) (sym ended) fit

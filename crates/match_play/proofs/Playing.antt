@@ -15,11 +15,11 @@ use Rattle.script_text.proofs.ReadNext.{took_more}
 use Rattle.script_text.proofs.ReadWalk.{chain-assoc, chain-same, reading-line}
 use Rattle.match_play.specs.declared.states.ScriptStop.{ScriptStop}
 use Rattle.match_play.specs.declared.states.ScriptStop.TheVariants.{BadLine, TooLong}
-use Rattle.match_play.specs.declared.states.Ahead.{Ahead}
-use Rattle.match_play.specs.declared.states.Ahead.TheVariants as ahead
-use Rattle.match_play.specs.declared.states.Ground.{Ground}
-use Rattle.match_play.specs.declared.states.Ground.TheVariants as ground
-use Rattle.match_play.specs.declared.states.Course.{Course}
+use Rattle.match_play.specs.declared.states.NextItem.{NextItem}
+use Rattle.match_play.specs.declared.states.NextItem.TheVariants as next_item
+use Rattle.match_play.specs.declared.states.MatchProgress.{MatchProgress}
+use Rattle.match_play.specs.declared.states.MatchProgress.TheVariants as progress
+use Rattle.match_play.specs.declared.states.MatchState.{MatchState}
 use Rattle.match_play.specs.declared.faults.MatchFault.{MatchFault}
 use Rattle.match_play.specs.declared.faults.MatchFault.TheVariants as fault
 use Rattle.match_play.specs.Texts.{Said, unsaid, Says, Gives, IsText, stop_text, ends_text}
@@ -77,7 +77,7 @@ reading_used fed rest held items u =
 
 -- ---- steps
 
-pub plays_none : (a : Course) (left : List ℕ) → Plays a a left left
+pub plays_none : (a : MatchState) (left : List ℕ) → Plays a a left left
 plays_none a left = record {
   taken = [];
   took = refl;
@@ -87,7 +87,7 @@ plays_none a left = record {
   played = λ fed told h. subst (λ (l : List ℕ). HasPlayed a l (told ++ [])) (sym (append-nil fed)) (subst (HasPlayed a fed) (sym (append-nil told)) h);
 }
 
-pub plays_then : (a b c : Course) (x y z : List ℕ) → Plays a b x y → Plays b c y z → Plays a c x z
+pub plays_then : (a b c : MatchState) (x y z : List ℕ) → Plays a b x y → Plays b c y z → Plays a c x z
 plays_then a b c x y z p q = record {
   taken = p.taken ++ q.taken;
   took = took_more x y z p.taken q.taken p.took q.took;
@@ -105,24 +105,24 @@ took_here : (piece left taken : List ℕ) → piece ++ [] ≡ taken ++ (left ++ 
 took_here piece left taken took = sym (append-nil piece) ∙ took ∙ ap (λ (l : List ℕ). taken ++ l) (append-nil left)
 
 -- the script after a call
-abbrev pub with_script : Course → Held → Course
+abbrev pub with_script : MatchState → Held → MatchState
 with_script a new = record a { script = new }
 
-abbrev pub with_ahead : Course → Held → Ahead → Course
-with_ahead a new next = record a { script = new; ahead = next }
+abbrev pub with_ahead : MatchState → Held → NextItem → MatchState
+with_ahead a new next = record a { script = new; next_item = next }
 
 -- ---- a script that goes on
 
 -- the lines that were used before a call
-used_before : (a : Course) (fed : List ℕ) (items : List Item) → IsFalse a.ended → a.ahead ≡ ahead.Lines → HasRead a.ended a.script fed items a.ahead
+used_before : (a : MatchState) (fed : List ℕ) (items : List Item) → IsFalse a.ended → a.next_item ≡ next_item.Lines → HasRead a.ended a.script fed items a.next_item
     → UsesLines unread a.script fed items
 used_before a fed items unended at read =
     let lines : ReadsItems a.ended a.script fed items = subst (HasRead a.ended a.script fed items) at read in
     subst (λ (e : Bool). ReadsItems e a.script fed items) unended lines
 
 -- and those that were used after it
-used_after : (a : Course) (held : Held) (fed : List ℕ) (items : List Item) → IsFalse a.ended → a.ahead ≡ ahead.Lines → UsesLines unread held fed items
-    → HasRead a.ended held fed items a.ahead
+used_after : (a : MatchState) (held : Held) (fed : List ℕ) (items : List Item) → IsFalse a.ended → a.next_item ≡ next_item.Lines → UsesLines unread held fed items
+    → HasRead a.ended held fed items a.next_item
 used_after a held fed items unended at used =
     subst (HasRead a.ended held fed items) (sym at) (reads_items a.ended held fed items unended used)
   where
@@ -130,7 +130,7 @@ used_after a held fed items unended at used =
     reads_items ended held fed items unended used = subst (λ (e : Bool). ReadsItems e held fed items) (sym unended) used
 
 -- lines were used that give nothing
-plays_on : (a : Course) (new : Held) (piece left : List ℕ) → IsFalse a.ended → a.ahead ≡ ahead.Lines → GoesOn a.script new (piece ++ []) (left ++ []) [] → IsFalse new.ended
+plays_on : (a : MatchState) (new : Held) (piece left : List ℕ) → IsFalse a.ended → a.next_item ≡ next_item.Lines → GoesOn a.script new (piece ++ []) (left ++ []) [] → IsFalse new.ended
     → Plays a (with_script a new) piece left
 plays_on a new piece left unended at g going = record {
   taken = g.taken;
@@ -150,12 +150,12 @@ plays_on a new piece left unended at g going = record {
       };
 }
 
-pub plays_lines : (a : Course) (new : Held) (piece left : List ℕ) → IsFalse a.ended → a.ahead ≡ ahead.Lines → PushTold a.script new piece left (Ok None) → IsFalse new.ended
+pub plays_lines : (a : MatchState) (new : Held) (piece left : List ℕ) → IsFalse a.ended → a.next_item ≡ next_item.Lines → PushTold a.script new piece left (Ok None) → IsFalse new.ended
     → Plays a (with_script a new) piece left
 plays_lines a new piece left unended at told going = plays_on a new piece left unended at (told []) going
 
 -- there was no memory
-pub plays_fault : (a : Course) (new : Held) (piece left : List ℕ) (fault : ScriptFault) → IsFalse a.ended → a.ahead ≡ ahead.Lines → PushTold a.script new piece left (Err fault)
+pub plays_fault : (a : MatchState) (new : Held) (piece left : List ℕ) (fault : ScriptFault) → IsFalse a.ended → a.next_item ≡ next_item.Lines → PushTold a.script new piece left (Err fault)
     → IsFalse new.ended → stop_in fault ≡ None → Plays a (with_script a new) piece left
 plays_fault a new piece left (met.BadLine n) unended at told going none = absurd (cc)
 plays_fault a new piece left (met.TooLong n) unended at told going none = absurd (cc)
@@ -163,8 +163,8 @@ plays_fault a new piece left met.ReadFault unended at told going none = absurd (
 plays_fault a new piece left met.NoMemory unended at told going none = plays_on a new piece left unended at (told []) going
 
 -- an item was read
-pub plays_item : (a : Course) (new : Held) (item : ScriptItem) (piece left : List ℕ) → IsFalse a.ended → a.ahead ≡ ahead.Lines
-    → PushTold a.script new piece left (Ok (Some item)) → IsFalse new.ended → Plays a (with_ahead a new (ahead.Item item)) piece left
+pub plays_item : (a : MatchState) (new : Held) (item : ScriptItem) (piece left : List ℕ) → IsFalse a.ended → a.next_item ≡ next_item.Lines
+    → PushTold a.script new piece left (Ok (Some item)) → IsFalse new.ended → Plays a (with_ahead a new (next_item.Item item)) piece left
 plays_item a new item piece left unended at told going =
     let g = told [] in
     record {
@@ -181,7 +181,7 @@ plays_item a new item piece left unended at told going =
             text = h.text;
             read = subst (λ (e : Bool). ReadsItems e new (fed ++ g.taken) (h.items ++ item_of item ∷ [])) (sym unended) used;
             gives = h.gives;
-            all = append-nil told ∙ (h.all ∙ ap (λ (next : Ahead). h.text ++ told_stop next) at);
+            all = append-nil told ∙ (h.all ∙ ap (λ (next : NextItem). h.text ++ told_stop next) at);
           };
     }
 
@@ -208,8 +208,8 @@ stuck_behind fed piece more held items stop u is =
     ∙ ap (λ (w : Walk). chain (arrived items held.place) (λ q. w)) is
     ∙ ap (λ (l : List Item). stuck_after l stop) (append-nil items)
 
-pub plays_stop : (a : Course) (new : Held) (piece left : List ℕ) (fault : ScriptFault) (stop : ScriptStop) → IsFalse a.ended → a.ahead ≡ ahead.Lines
-    → PushTold a.script new piece left (Err fault) → stop_in fault ≡ Some stop → Plays a (with_ahead a new (ahead.Stop stop)) piece []
+pub plays_stop : (a : MatchState) (new : Held) (piece left : List ℕ) (fault : ScriptFault) (stop : ScriptStop) → IsFalse a.ended → a.next_item ≡ next_item.Lines
+    → PushTold a.script new piece left (Err fault) → stop_in fault ≡ Some stop → Plays a (with_ahead a new (next_item.Stop stop)) piece []
 plays_stop a new piece left fault stop unended at told is = record {
   taken = piece;
   took = sym (append-nil piece);
@@ -225,14 +225,14 @@ plays_stop a new piece left fault stop unended at told is = record {
         text = h.text;
         read = subst (λ (e : Bool). StopsBehind e (fed ++ piece) h.items (stop_of stop)) (sym unended) stuck;
         gives = h.gives;
-        all = append-nil said ∙ (h.all ∙ ap (λ (next : Ahead). h.text ++ told_stop next) at);
+        all = append-nil said ∙ (h.all ∙ ap (λ (next : NextItem). h.text ++ told_stop next) at);
       };
 }
 
 -- the item that waits was told
-pub plays_told : (a : Course) (item : ScriptItem) (next : Ground) (waits left : List ℕ) → a.ahead ≡ ahead.Item item
-    → Tells a.report (said_of a.ground) (item_of item) (said_of next) a.waiting waits
-    → Plays a (record a { ahead = ahead.Lines; ground = next; waiting = waits }) left left
+pub plays_told : (a : MatchState) (item : ScriptItem) (next : MatchProgress) (waits left : List ℕ) → a.next_item ≡ next_item.Item item
+    → Tells a.report (said_of a.progress) (item_of item) (said_of next) a.waiting waits
+    → Plays a (record a { next_item = next_item.Lines; progress = next; waiting = waits }) left left
 plays_told a item next waits left at (piece, (says, is)) = record {
   taken = [];
   took = refl;
@@ -241,20 +241,20 @@ plays_told a item next waits left at (piece, (says, is)) = record {
   report = refl;
   played = λ fed told h.
       let read : ReadsItems a.ended a.script fed (h.items ++ item_of item ∷ []) = subst (HasRead a.ended a.script fed h.items) at h.read in
-      let said : told ≡ h.text = h.all ∙ (ap (λ (n : Ahead). h.text ++ told_stop n) at ∙ append-nil h.text) in
+      let said : told ≡ h.text = h.all ∙ (ap (λ (n : NextItem). h.text ++ told_stop n) at ∙ append-nil h.text) in
       record {
         items = h.items ++ item_of item ∷ [];
         text = h.text ++ piece;
         read = subst (λ (l : List ℕ). ReadsItems a.ended a.script l (h.items ++ item_of item ∷ [])) (sym (append-nil fed)) read;
-        gives = gives_on a.report unsaid (said_of a.ground) (said_of next) h.items (item_of item ∷ []) h.text piece h.gives
-            (gives_one a.report (said_of a.ground) (said_of next) (item_of item) piece says);
+        gives = gives_on a.report unsaid (said_of a.progress) (said_of next) h.items (item_of item ∷ []) h.text piece h.gives
+            (gives_one a.report (said_of a.progress) (said_of next) (item_of item) piece says);
         all = ap (λ (l : List ℕ). l ++ piece) said ∙ sym (append-nil (h.text ++ piece));
       };
 }
 
 -- the stop was told
-pub plays_end : (a : Course) (stop : ScriptStop) (waits left : List ℕ) → a.ahead ≡ ahead.Stop stop → waits ≡ a.waiting ++ stop_text (stop_of stop)
-    → Plays a (record a { ahead = ahead.Nothing stop; waiting = waits }) left left
+pub plays_end : (a : MatchState) (stop : ScriptStop) (waits left : List ℕ) → a.next_item ≡ next_item.Stop stop → waits ≡ a.waiting ++ stop_text (stop_of stop)
+    → Plays a (record a { next_item = next_item.Nothing stop; waiting = waits }) left left
 plays_end a stop waits left at is = record {
   taken = [];
   took = refl;
@@ -263,7 +263,7 @@ plays_end a stop waits left at is = record {
   report = refl;
   played = λ fed told h.
       let read : StopsBehind a.ended fed h.items (stop_of stop) = subst (HasRead a.ended a.script fed h.items) at h.read in
-      let said : told ≡ h.text = h.all ∙ (ap (λ (n : Ahead). h.text ++ told_stop n) at ∙ append-nil h.text) in
+      let said : told ≡ h.text = h.all ∙ (ap (λ (n : NextItem). h.text ++ told_stop n) at ∙ append-nil h.text) in
       record {
         items = h.items;
         text = h.text;
@@ -279,15 +279,15 @@ more_bytes true fed more items stop unended read = absurd (cc)
 more_bytes false fed more items stop unended read = λ rest.
     ap (λ (bytes : List ℕ). reading bytes beginning) (append_assoc fed more rest) ∙ read (more ++ rest)
 
-more_read : (ended : Bool) (held : Held) (fed more : List ℕ) (items : List Item) (next : Ahead) → IsFalse ended → IsStopped next → HasRead ended held fed items next
+more_read : (ended : Bool) (held : Held) (fed more : List ℕ) (items : List Item) (next : NextItem) → IsFalse ended → IsStopped next → HasRead ended held fed items next
     → HasRead ended held (fed ++ more) items next
-more_read ended held fed more items ahead.Lines unended stopped read = absurd stopped
-more_read ended held fed more items (ahead.Item item) unended stopped read = absurd stopped
-more_read ended held fed more items (ahead.Stop stop) unended stopped read = more_bytes ended fed more items (stop_of stop) unended read
-more_read ended held fed more items (ahead.Nothing stop) unended stopped read = more_bytes ended fed more items (stop_of stop) unended read
-more_read ended held fed more items ahead.Whole unended stopped read = absurd stopped
+more_read ended held fed more items next_item.Lines unended stopped read = absurd stopped
+more_read ended held fed more items (next_item.Item item) unended stopped read = absurd stopped
+more_read ended held fed more items (next_item.Stop stop) unended stopped read = more_bytes ended fed more items (stop_of stop) unended read
+more_read ended held fed more items (next_item.Nothing stop) unended stopped read = more_bytes ended fed more items (stop_of stop) unended read
+more_read ended held fed more items next_item.Whole unended stopped read = absurd stopped
 
-pub plays_stopped : (a : Course) (piece : List ℕ) → IsFalse a.ended → IsStopped a.ahead → Plays a a piece []
+pub plays_stopped : (a : MatchState) (piece : List ℕ) → IsFalse a.ended → IsStopped a.next_item → Plays a a piece []
 plays_stopped a piece unended stopped = record {
   taken = piece;
   took = sym (append-nil piece);
@@ -297,7 +297,7 @@ plays_stopped a piece unended stopped = record {
   played = λ fed told h. record {
     items = h.items;
     text = h.text;
-    read = more_read a.ended a.script fed piece h.items a.ahead unended stopped h.read;
+    read = more_read a.ended a.script fed piece h.items a.next_item unended stopped h.read;
     gives = h.gives;
     all = append-nil told ∙ h.all;
   };
@@ -305,7 +305,7 @@ plays_stopped a piece unended stopped = record {
 
 -- ---- answers
 
-pub opened : (report : Report) → HasPlayed (record { report = report; script = unread; ended = false; ahead = ahead.Lines; ground = ground.Nothing; waiting = [] }) [] []
+pub opened : (report : Report) → HasPlayed (record { report = report; script = unread; ended = false; next_item = next_item.Lines; progress = progress.Nothing; waiting = [] }) [] []
 opened report = record {
   items = [];
   text = [];
@@ -315,48 +315,48 @@ opened report = record {
 }
 
 -- all whole lines were played
-lines_text : (b : Course) (fed told : List ℕ) → IsFalse b.ended → b.ahead ≡ ahead.Lines → full_lines b.script.bytes ≡ [] → HasPlayed b fed told → IsLinesText b.report fed told
+lines_text : (b : MatchState) (fed told : List ℕ) → IsFalse b.ended → b.next_item ≡ next_item.Lines → full_lines b.script.bytes ≡ [] → HasPlayed b fed told → IsLinesText b.report fed told
 lines_text b fed told unended at none h =
     let u = used_before b fed h.items unended at h.read in
     let lines : full_lines fed ≡ u.lines =
     ap full_lines u.bytes ∙ (full_lines-behind u.lines b.script.bytes u.plain ∙ (ap (λ (ls : List (List ℕ)). u.lines ++ ls) none ∙ append-nil u.lines)) in
-    let said : told ≡ h.text = h.all ∙ (ap (λ (n : Ahead). h.text ++ told_stop n) at ∙ append-nil h.text) in
+    let said : told ≡ h.text = h.all ∙ (ap (λ (n : NextItem). h.text ++ told_stop n) at ∙ append-nil h.text) in
     record {
       items = h.items;
       place = b.script.place;
       walked = ap (λ (ls : List (List ℕ)). walk ls beginning) lines ∙ u.walked;
-      text = (said_of b.ground, subst (λ (l : List ℕ). Gives b.report unsaid h.items l (said_of b.ground)) (sym said) h.gives);
+      text = (said_of b.progress, subst (λ (l : List ℕ). Gives b.report unsaid h.items l (said_of b.progress)) (sym said) h.gives);
     }
 
-pub feed_lines : (a b : Course) (piece left : List ℕ) → Plays a b piece left → IsFalse b.ended → b.ahead ≡ ahead.Lines → full_lines b.script.bytes ≡ [] → FeedPlays a b piece left (Ok tt)
+pub feed_lines : (a b : MatchState) (piece left : List ℕ) → Plays a b piece left → IsFalse b.ended → b.next_item ≡ next_item.Lines → full_lines b.script.bytes ≡ [] → FeedPlays a b piece left (Ok tt)
 feed_lines a b piece left p unended at none = record {
   plays = p;
   told = λ fed told h. subst (λ (r : Report). IsLinesText r (fed ++ p.taken) (told ++ p.text)) p.report
       (lines_text b (fed ++ p.taken) (told ++ p.text) unended at none (p.played fed told h));
 }
 
-pub feed_nothing : (a b : Course) (piece left : List ℕ) → Plays a b piece left → FeedPlays a b piece left (Err fault.NoMemory)
+pub feed_nothing : (a b : MatchState) (piece left : List ℕ) → Plays a b piece left → FeedPlays a b piece left (Err fault.NoMemory)
 feed_nothing a b piece left p = record { plays = p; told = λ fed told h. tt }
 
 -- the match has stopped
-stop_told : (b : Course) (stop : ScriptStop) (fed told : List ℕ) → IsFalse b.ended → b.ahead ≡ ahead.Nothing stop → HasPlayed b fed told → IsStopText b.report (stop_of stop) fed told
+stop_told : (b : MatchState) (stop : ScriptStop) (fed told : List ℕ) → IsFalse b.ended → b.next_item ≡ next_item.Nothing stop → HasPlayed b fed told → IsStopText b.report (stop_of stop) fed told
 stop_told b stop fed told unended at h =
     let stops : StopsBehind b.ended fed h.items (stop_of stop) = subst (HasRead b.ended b.script fed h.items) at h.read in
     let read : (more : List ℕ) → reading (fed ++ more) beginning ≡ stuck_after h.items (stop_of stop) =
     subst (λ (e : Bool). StopsBehind e fed h.items (stop_of stop)) unended stops in
-    let said : told ≡ h.text ++ stop_text (stop_of stop) = h.all ∙ ap (λ (n : Ahead). h.text ++ told_stop n) at in
+    let said : told ≡ h.text ++ stop_text (stop_of stop) = h.all ∙ ap (λ (n : NextItem). h.text ++ told_stop n) at in
     record {
       stuck = λ more. ap (λ (w : Walk). w.ends) (read more);
       out = λ more.
           subst (λ (w : Walk). (body : List ℕ) × (IsText b.report w.items body × (told ≡ body ++ ends_text w.ends))) (sym (read more))
-          (h.text, ((said_of b.ground, h.gives), said));
+          (h.text, ((said_of b.progress, h.gives), said));
     }
 
 told_by : (report : Report) (stop : ScriptStop) (fed told : List ℕ) → IsStopText report (stop_of stop) fed told → FeedTold report (Err (fault_of stop)) fed told
 told_by report (BadLine n) fed told is = is
 told_by report (TooLong n) fed told is = is
 
-feed_stopped : (a b : Course) (stop : ScriptStop) (piece left : List ℕ) → Plays a b piece left → IsFalse b.ended → b.ahead ≡ ahead.Nothing stop
+feed_stopped : (a b : MatchState) (stop : ScriptStop) (piece left : List ℕ) → Plays a b piece left → IsFalse b.ended → b.next_item ≡ next_item.Nothing stop
     → FeedPlays a b piece left (Err (fault_of stop))
 feed_stopped a b stop piece left p unended at = record {
   plays = p;
@@ -366,17 +366,17 @@ feed_stopped a b stop piece left p unended at = record {
 }
 
 -- the stop was told, or there was no memory
-pub feed_told : (a b : Course) (piece left : List ℕ) (result : Result (Unit {0}) MatchFault) → Plays a b piece left → IsFalse b.ended → TellsStop b.ahead result
+pub feed_told : (a b : MatchState) (piece left : List ℕ) (result : Result (Unit {0}) MatchFault) → Plays a b piece left → IsFalse b.ended → TellsStop b.next_item result
     → FeedPlays a b piece left result
 feed_told a b piece left result p unended (inl none) = subst (FeedPlays a b piece left) (sym none) (feed_nothing a b piece left p)
 feed_told a b piece left result p unended (inr (stop, (at, is))) = subst (FeedPlays a b piece left) (sym is) (feed_stopped a b stop piece left p unended at)
 
 -- the script had ended
-pub feed_ended : (a : Course) (piece : List ℕ) → FeedPlays a a piece piece (Err fault.Ended)
+pub feed_ended : (a : MatchState) (piece : List ℕ) → FeedPlays a a piece piece (Err fault.Ended)
 feed_ended a piece = record { plays = plays_none a piece; told = λ fed told h. tt }
 
 -- a stop is no end
-pub stop_answer : (next : Ahead) (result : Result (Unit {0}) MatchFault) → TellsStop next result → result ≡ Err fault.Ended → ⊥
+pub stop_answer : (next : NextItem) (result : Result (Unit {0}) MatchFault) → TellsStop next result → result ≡ Err fault.Ended → ⊥
 stop_answer next result (inl none) is = absurd (cc)
 stop_answer next result (inr (BadLine n, (at, met))) is = absurd (cc)
 stop_answer next result (inr (TooLong n, (at, met))) is = absurd (cc)
@@ -386,12 +386,12 @@ pub only_ended : (result : Result (Unit {0}) MatchFault) (ended : Bool) → IsFa
 only_ended result ended unended answer = (λ is. absurd (answer is), λ end. absurd (cc))
 
 -- and only one of which all was told
-pub only_over : (a : Course) (result : Result (Unit {0}) MatchFault) (over : Bool) → (IsOver a → IsTrue over) → IsFalse over → (result ≡ Err fault.Ended → ⊥)
+pub only_over : (a : MatchState) (result : Result (Unit {0}) MatchFault) (over : Bool) → (IsOver a → IsTrue over) → IsFalse over → (result ≡ Err fault.Ended → ⊥)
     → (result ≡ Err fault.Ended) ↔ IsOver a
 only_over a result over says none answer = (λ is. absurd (answer is), λ end. let is = says end in absurd (cc))
 
 -- the text that waits was taken
-pub taken_away : (a : Course) → HasTaken a (record a { waiting = [] })
+pub taken_away : (a : MatchState) → HasTaken a (record a { waiting = [] })
 taken_away a = record {
   same = refl;
   waits = refl;

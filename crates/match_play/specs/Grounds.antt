@@ -12,42 +12,42 @@ use Rattle.script_text.specs.declared.parts.Part.TheVariants.{BeforeMap, InTurns
 use Rattle.script_text.specs.Script.{Item, rules_of}
 use Rattle.script_text.specs.Reader.{rules_at}
 use Rattle.turn_core.specs.Words.{MapState, bare}
-use Rattle.match_play.specs.declared.states.Ground.{Ground}
-use Rattle.match_play.specs.declared.states.Ground.TheVariants as ground
+use Rattle.match_play.specs.declared.states.MatchProgress.{MatchProgress}
+use Rattle.match_play.specs.declared.states.MatchProgress.TheVariants as progress
 use Rattle.match_play.specs.Texts.{Said, unsaid, Says}
 
 -- what the next answers rest on
-abbrev pub said_of : Ground → Said
-said_of ground.Nothing = unsaid
-said_of (ground.Map m) = record { map = Some m; standing = bare; turns = 0 }
-said_of (ground.Turns version turns) = record { map = Some version.map; standing = version.standing; turns = turns }
+abbrev pub said_of : MatchProgress → Said
+said_of progress.Nothing = unsaid
+said_of (progress.Map m) = record { map = Some m; standing = bare; turns = 0 }
+said_of (progress.Turns version turns) = record { map = Some version.map; standing = version.standing; turns = turns }
 
 -- how many turns were told
-abbrev pub turns_in : Ground → ℕ
+abbrev pub turns_in : MatchProgress → ℕ
 turns_in g = (said_of g).turns
 
 -- ---- items on what a match stands on
 
 -- the map may come
-abbrev pub IsNothing : Ground → Type 0
-IsNothing ground.Nothing = ⊤
-IsNothing (ground.Map m) = ⊥
-IsNothing (ground.Turns version turns) = ⊥
+abbrev pub IsNothing : MatchProgress → Type 0
+IsNothing progress.Nothing = ⊤
+IsNothing (progress.Map m) = ⊥
+IsNothing (progress.Turns version turns) = ⊥
 
 -- base rectangles may be added, and lie inside the map
-abbrev pub FitsBase : Ground → List (Rect × ℕ) → Type 0
-FitsBase ground.Nothing rects = ⊥
-FitsBase (ground.Map m) rects = All (λ (entry : Rect × ℕ). IsRectInside m.size entry.0) rects
-FitsBase (ground.Turns version turns) rects = ⊥
+abbrev pub FitsBase : MatchProgress → List (Rect × ℕ) → Type 0
+FitsBase progress.Nothing rects = ⊥
+FitsBase (progress.Map m) rects = All (λ (entry : Rect × ℕ). IsRectInside m.size entry.0) rects
+FitsBase (progress.Turns version turns) rects = ⊥
 
 -- a turn may come, and there were few
-abbrev pub FitsTurn : Ground → Type 0
-FitsTurn ground.Nothing = ⊥
-FitsTurn (ground.Map m) = ⊤
-FitsTurn (ground.Turns version turns) = turns < 2 ^ 32
+abbrev pub FitsTurn : MatchProgress → Type 0
+FitsTurn progress.Nothing = ⊥
+FitsTurn (progress.Map m) = ⊤
+FitsTurn (progress.Turns version turns) = turns < 2 ^ 32
 
 -- the item may come
-abbrev pub FitsItem : Ground → ScriptItem → Type 0
+abbrev pub FitsItem : MatchProgress → ScriptItem → Type 0
 FitsItem g (item.Map m) = IsNothing g
 FitsItem g (item.Base rects) = FitsBase g rects
 FitsItem g (item.Turn posts) = FitsTurn g
@@ -61,18 +61,18 @@ TakesItem Takes (item.Turn posts) = Takes (length (jobs posts))
 -- ---- what items make of it
 
 -- the map has the rectangles behind its own
-abbrev pub AddsBase : Ground → List (Rect × ℕ) → Ground → Type 0
-AddsBase ground.Nothing rects new = ⊥
-AddsBase (ground.Map m) rects new = new ≡ ground.Map (with_base m rects)
-AddsBase (ground.Turns version turns) rects new = ⊥
+abbrev pub AddsBase : MatchProgress → List (Rect × ℕ) → MatchProgress → Type 0
+AddsBase progress.Nothing rects new = ⊥
+AddsBase (progress.Map m) rects new = new ≡ progress.Map (with_base m rects)
+AddsBase (progress.Turns version turns) rects new = ⊥
 
 -- a version of the same map stands after one turn more
-abbrev pub AddsTurn : Ground → Ground → Type 0
-AddsTurn old new = (version : MapState) × ((new ≡ ground.Turns version (turns_in old + 1)) × ((said_of old).map ≡ Some version.map))
+abbrev pub AddsTurn : MatchProgress → MatchProgress → Type 0
+AddsTurn old new = (version : MapState) × ((new ≡ progress.Turns version (turns_in old + 1)) × ((said_of old).map ≡ Some version.map))
 
 -- what an item makes of what stood
-abbrev pub Becomes : Ground → ScriptItem → Ground → Type 0
-Becomes old (item.Map m) new = new ≡ ground.Map m
+abbrev pub Becomes : MatchProgress → ScriptItem → MatchProgress → Type 0
+Becomes old (item.Map m) new = new ≡ progress.Map m
 Becomes old (item.Base rects) new = AddsBase old rects new
 Becomes old (item.Turn posts) new = AddsTurn old new
 
@@ -83,7 +83,7 @@ Tells report s item t old new = (text : List ℕ) × (Says report s item text t 
 -- ---- what goes with the script
 
 -- what stands goes with the part of the script that was read
-abbrev pub FitsPart : Ground → Part → Type 0
-FitsPart ground.Nothing part = part ≡ BeforeMap
-FitsPart (ground.Map m) part = rules_at part ≡ Some (rules_of m)
-FitsPart (ground.Turns version turns) part = part ≡ InTurns (rules_of version.map)
+abbrev pub FitsPart : MatchProgress → Part → Type 0
+FitsPart progress.Nothing part = part ≡ BeforeMap
+FitsPart (progress.Map m) part = rules_at part ≡ Some (rules_of m)
+FitsPart (progress.Turns version turns) part = part ≡ InTurns (rules_of version.map)

@@ -8,9 +8,9 @@ use Rattle.script_text.specs.Reader.{Held, unread, UsesLines, stuck_after}
 use Rattle.script_text.specs.Pushed.{item_of}
 use Rattle.match_play.specs.declared.states.ScriptStop.{ScriptStop}
 use Rattle.match_play.specs.declared.states.ScriptStop.TheVariants.{BadLine, TooLong}
-use Rattle.match_play.specs.declared.states.Ahead.{Ahead}
-use Rattle.match_play.specs.declared.states.Ahead.TheVariants as ahead
-use Rattle.match_play.specs.declared.states.Course.{Course}
+use Rattle.match_play.specs.declared.states.NextItem.{NextItem}
+use Rattle.match_play.specs.declared.states.NextItem.TheVariants as next_item
+use Rattle.match_play.specs.declared.states.MatchState.{MatchState}
 use Rattle.match_play.specs.declared.faults.MatchFault.{MatchFault}
 use Rattle.match_play.specs.declared.faults.MatchFault.TheVariants as fault
 use Rattle.match_play.specs.Texts.{Said, unsaid, Gives, IsText, stop_text, IsOut}
@@ -33,40 +33,40 @@ StopsBehind false fed items stop = (more : List ℕ) → reading (fed ++ more) b
 StopsBehind true fed items stop = reading fed beginning ≡ stuck_after items stop
 
 -- What was read, where these items were told: the items, and one more where one waits; or a script that stops behind them.
-abbrev pub HasRead : Bool → Held → List ℕ → List Item → Ahead → Type 0
-HasRead ended held fed items ahead.Lines = ReadsItems ended held fed items
-HasRead ended held fed items (ahead.Item item) = ReadsItems ended held fed (items ++ item_of item ∷ [])
-HasRead ended held fed items (ahead.Stop stop) = StopsBehind ended fed items (stop_of stop)
-HasRead ended held fed items (ahead.Nothing stop) = StopsBehind ended fed items (stop_of stop)
-HasRead ended held fed items ahead.Whole = StopsBehind ended fed items whole_input
+abbrev pub HasRead : Bool → Held → List ℕ → List Item → NextItem → Type 0
+HasRead ended held fed items next_item.Lines = ReadsItems ended held fed items
+HasRead ended held fed items (next_item.Item item) = ReadsItems ended held fed (items ++ item_of item ∷ [])
+HasRead ended held fed items (next_item.Stop stop) = StopsBehind ended fed items (stop_of stop)
+HasRead ended held fed items (next_item.Nothing stop) = StopsBehind ended fed items (stop_of stop)
+HasRead ended held fed items next_item.Whole = StopsBehind ended fed items whole_input
 
 -- what was told of a stop
-abbrev pub told_stop : Ahead → List ℕ
-told_stop ahead.Lines = []
-told_stop (ahead.Item item) = []
-told_stop (ahead.Stop stop) = []
-told_stop (ahead.Nothing stop) = stop_text (stop_of stop)
-told_stop ahead.Whole = stop_text whole_input
+abbrev pub told_stop : NextItem → List ℕ
+told_stop next_item.Lines = []
+told_stop (next_item.Item item) = []
+told_stop (next_item.Stop stop) = []
+told_stop (next_item.Nothing stop) = stop_text (stop_of stop)
+told_stop next_item.Whole = stop_text whole_input
 
 -- all was told that the script gives
-abbrev pub IsTold : Ahead → Type 0
-IsTold ahead.Lines = ⊥
-IsTold (ahead.Item item) = ⊥
-IsTold (ahead.Stop stop) = ⊥
-IsTold (ahead.Nothing stop) = ⊤
-IsTold ahead.Whole = ⊤
+abbrev pub IsTold : NextItem → Type 0
+IsTold next_item.Lines = ⊥
+IsTold (next_item.Item item) = ⊥
+IsTold (next_item.Stop stop) = ⊥
+IsTold (next_item.Nothing stop) = ⊤
+IsTold next_item.Whole = ⊤
 
 -- the script has ended, and all was told
-abbrev pub IsOver : Course → Type 0
-IsOver m = IsTrue m.ended × IsTold m.ahead
+abbrev pub IsOver : MatchState → Type 0
+IsOver m = IsTrue m.ended × IsTold m.next_item
 
 -- The match was fed with these bytes since it was opened, and has told this text in all.
-pub record HasPlayed (m : Course) (fed told : List ℕ) : Type 0 where
+pub record HasPlayed (m : MatchState) (fed told : List ℕ) : Type 0 where
   pub items : List Item
   pub text : List ℕ
-  pub read : HasRead m.ended m.script fed items m.ahead
-  pub gives : Gives m.report unsaid items text (said_of m.ground)
-  pub all : told ≡ text ++ told_stop m.ahead
+  pub read : HasRead m.ended m.script fed items m.next_item
+  pub gives : Gives m.report unsaid items text (said_of m.progress)
+  pub all : told ≡ text ++ told_stop m.next_item
 
 -- ---- calls
 
@@ -104,7 +104,7 @@ FinishTold report (Err fault.Ended) fed told = IsOut report fed told
 FinishTold report (Err fault.NoMemory) fed told = ⊤
 
 -- Of a piece, from which what is left was not taken: its bytes were fed, and text was told, which waits.
-pub record Plays (old new : Course) (piece left : List ℕ) : Type 0 where
+pub record Plays (old new : MatchState) (piece left : List ℕ) : Type 0 where
   pub taken : List ℕ
   pub took : piece ≡ taken ++ left
   pub text : List ℕ
@@ -113,12 +113,12 @@ pub record Plays (old new : Course) (piece left : List ℕ) : Type 0 where
   pub played : (fed told : List ℕ) → HasPlayed old fed told → HasPlayed new (fed ++ taken) (told ++ text)
 
 -- the same with what the answer says
-pub record FeedPlays (old new : Course) (piece left : List ℕ) (result : Result (Unit {0}) MatchFault) : Type 0 where
+pub record FeedPlays (old new : MatchState) (piece left : List ℕ) (result : Result (Unit {0}) MatchFault) : Type 0 where
   pub plays : Plays old new piece left
   pub told : (fed told : List ℕ) → HasPlayed old fed told → FeedTold old.report result (fed ++ plays.taken) (told ++ plays.text)
 
 -- Of the end of a script: text was told, which waits.
-pub record FinishPlays (old new : Course) (result : Result (Unit {0}) MatchFault) : Type 0 where
+pub record FinishPlays (old new : MatchState) (result : Result (Unit {0}) MatchFault) : Type 0 where
   pub text : List ℕ
   pub waits : new.waiting ≡ old.waiting ++ text
   pub report : new.report ≡ old.report
@@ -134,7 +134,7 @@ TakesAll left (Err fault.Ended) = ⊤
 TakesAll left (Err fault.NoMemory) = ⊤
 
 -- Nothing waits, and else the match is as it was.
-pub record HasTaken (old new : Course) : Type 0 where
+pub record HasTaken (old new : MatchState) : Type 0 where
   pub same : new ≡ record old { waiting = [] }
   pub waits : new.waiting ≡ []
   pub report : new.report ≡ old.report

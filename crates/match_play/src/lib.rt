@@ -26,17 +26,17 @@
 //! ```
 #![tactic(auto)]
 
-mod courses;
 mod faults;
-mod grounds;
+mod match_progress;
+mod match_states;
 mod matches;
 mod posted;
 mod states;
 mod views;
 
 pub use faults::MatchFault;
-pub use grounds::play_item;
+pub use match_progress::play_item;
 pub use matches::Match;
 pub use posted::{EndedTurn, PostedMatch};
 pub use posts::Report;
-pub use states::Ground;
+pub use states::MatchProgress;

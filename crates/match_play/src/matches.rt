@@ -3,9 +3,9 @@ ghost use Rattle.std.specs.Prelude.{◌≡◌, ◌≢◌, ◌↔◌, [], Err, If
 ghost use Rattle.match_play.specs.declared.faults.MatchFault.TheVariants.{Ended, NoMemory as no_memory};
 ghost use Rattle.match_play.specs.Playing.{FeedPlays, FinishPlays, HasPlayed, HasTaken, IsOver, IsView, TakesAll, said_of};
 
-use crate::courses;
 use crate::faults::MatchFault;
-use crate::states::{Ahead, Course, Ground};
+use crate::match_states;
+use crate::states::{MatchProgress, MatchState, NextItem};
 use crate::views::view_of;
 use grid_versions::Version;
 use nav_types::{Bytes, NoMemory};
@@ -27,22 +27,22 @@ use turn_core::OneThread;
 /// ```
 #[derive(Drop)]
 pub struct Match {
-    course: Course,
+    match_state: MatchState,
     thread: OneThread,
 }
 
 impl Model for Match {
-    ghost use Rattle.match_play.specs.declared.states.Course.{Course};
-    ghost use Rattle.match_play.specs.contracts.states.Course.{the_row as course_row};
+    ghost use Rattle.match_play.specs.declared.states.MatchState.{MatchState};
+    ghost use Rattle.match_play.specs.contracts.states.MatchState.{the_row as course_row};
     ghost use Rattle.match_play.specs.inner.Fitting.{IsFit};
 
-    ghost Value = { Course };
+    ghost Value = { MatchState };
 
     ghost coded = { course_row.coded };
 
-    ghost view = { λ m. m.course };
+    ghost view = { λ m. m.match_state };
 
-    ghost invariant = { λ m. IsFit m.course };
+    ghost invariant = { λ m. IsFit m.match_state };
 }
 
 impl Match {
@@ -54,12 +54,12 @@ impl Match {
         ensures waiting { result.waiting ≡ [] }
     {
         Match {
-            course: Course {
+            match_state: MatchState {
                 report,
                 script: PushedScript::new(alloc),
                 ended: false,
-                ahead: Ahead::Lines,
-                ground: Ground::Nothing,
+                next_item: NextItem::Lines,
+                progress: MatchProgress::Nothing,
                 waiting: Bytes::new(alloc),
             },
             thread: OneThread::new(),
@@ -81,7 +81,7 @@ impl Match {
         ensures kept { result ≡ Err Ended → (self.new ≡ self.old) × (bytes.new.now ≡ bytes.old.now) }
         ensures stays { self.new.ended ≡ self.old.ended }
     {
-        courses::feed(alloc, &mut self.thread, &mut self.course, bytes)
+        match_states::feed(alloc, &mut self.thread, &mut self.match_state, bytes)
     }
 
     /// Ends the script: it has no more bytes, as the end of its input tells `replay`. What stands behind the last newline
@@ -97,14 +97,14 @@ impl Match {
         ensures again { (result ≡ Err Ended) ↔ IsOver self.old }
         ensures kept { result ≡ Err Ended → self.new ≡ self.old }
     {
-        courses::finish(alloc, &mut self.thread, &mut self.course)
+        match_states::finish(alloc, &mut self.thread, &mut self.match_state)
     }
 
     /// The text that was told and not taken yet.
     pub fn waiting(&self) -> &[u8]
         ensures { result.now ≡ self.now.waiting }
     {
-        self.course.waiting.as_slice()
+        self.match_state.waiting.as_slice()
     }
 
     /// Gives the text that waits. None waits then.
@@ -112,22 +112,22 @@ impl Match {
         ensures text { result ≡ self.old.waiting }
         ensures taken { HasTaken self.old self.new }
     {
-        mem::replace(&mut self.course.waiting, Bytes::new(alloc))
+        mem::replace(&mut self.match_state.waiting, Bytes::new(alloc))
     }
 
     /// Lets go of the text that waits, and keeps its memory for what is told next.
     pub fn clear(&mut self)
         ensures { HasTaken self.old self.new }
     {
-        self.course.waiting.clear();
+        self.match_state.waiting.clear();
     }
 
     /// What stands after the turns that were told, as a version of its own, to be asked beside the match: which cells are
     /// passable, regions and areas, and by `solve` and `flow_of` of `turn_core` paths and fields. It shares all that it has
     /// with the match's, which goes on meanwhile. None exactly where the map has not come.
     pub fn view(&self, alloc: Global) -> Result<Option<Version>, NoMemory>
-        ensures { IfOk result (IsView (said_of self.now.ground)) }
+        ensures { IfOk result (IsView (said_of self.now.progress)) }
     {
-        view_of(alloc, &self.course.ground)
+        view_of(alloc, &self.match_state.progress)
     }
 }

@@ -15,7 +15,7 @@ pub enum ScriptStop {
 
 /// What comes next in a match.
 #[derive(Drop)]
-pub enum Ahead {
+pub enum NextItem {
     /// More of the script.
     Lines,
     /// What a line gave, which is not told yet.
@@ -30,7 +30,7 @@ pub enum Ahead {
 
 /// What the next answers of a match rest on. It begins with nothing.
 #[derive(Drop)]
-pub enum Ground {
+pub enum MatchProgress {
     /// Nothing: the map has not come.
     Nothing,
     /// The map, to which base rectangles may be added, since no turn has come.
@@ -41,7 +41,7 @@ pub enum Ground {
 
 /// A match between the bytes that it is fed with and the text that waits to be taken.
 #[derive(Drop)]
-pub struct Course {
+pub struct MatchState {
     /// What is told beside the answers.
     pub report: Report,
     /// How far the script was read.
@@ -49,9 +49,9 @@ pub struct Course {
     /// Whether the script has no more bytes than it was fed with.
     pub ended: bool,
     /// What comes next.
-    pub ahead: Ahead,
+    pub next_item: NextItem,
     /// What the next answers rest on.
-    pub ground: Ground,
+    pub progress: MatchProgress,
     /// The text that was told and not taken yet.
     pub waiting: Bytes,
 }

@@ -1,3 +1,4 @@
+//! Navcells, rectangles of them, and sizes of maps.
 ghost use Rattle.std.specs.Prelude.{◌≡◌, ◌<◌, ◌/◌};
 ghost use Rattle.nav_types.specs.Side.{IsSide};
 

@@ -1,3 +1,4 @@
+//! The eight directions, and sets of them.
 ghost use Rattle.std.specs.Prelude.{◌≡◌, ◌<◌, ◌≤◌, IsTrue, false, ◌&&◌};
 ghost use Rattle.nav_types.specs.DirSets.{spot_of};
 ghost use Rattle.nav_types.specs.declared.limits.TheConstants.{STRAIGHT_COST, DIAGONAL_COST};

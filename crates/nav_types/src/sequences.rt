@@ -1,3 +1,4 @@
+//! Lists in memory that may be refused, and want of memory as an error.
 ghost use Rattle.std.specs.Prelude.{◌≡◌, ◌++◌, ◌∷◌, [], length, slice_get, option_copied, option_to_list, IsNone, IfOk, IfErr, OnOk, OnErr, ◌↔◌, IsTrue, decimal};
 
 use itoa::Buffer;

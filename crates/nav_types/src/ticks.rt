@@ -1,3 +1,4 @@
+//! Step counters, by which contracts bound work.
 ghost use Rattle.std.specs.Prelude.{◌≡◌, ◌+◌, ◌<◌};
 
 use std::marker::Model;

@@ -1,3 +1,4 @@
+//! A map as searches see it: what is passable for a class, and what a search looks for.
 ghost use Rattle.std.specs.Prelude.{◌≡◌, ◌+◌, ◌<◌, ◌≤◌, IfSome, IfNone, IsTrue, ◌↔◌, ℕ};
 ghost use Rattle.nav_types.specs.declared.limits.TheConstants.{MAX_SIDE};
 ghost use Rattle.nav_types.specs.Cells.{IsInside};

@@ -1,3 +1,4 @@
+//! Whether a shape blocks a cell for a clearance.
 ghost use Rattle.std.specs.Prelude.{◌≡◌};
 ghost use Rattle.obstruction_shapes.specs.Shapes.{HasUnitVector};
 ghost use Rattle.obstruction_shapes.specs.Blocking.{blocked};

@@ -1,3 +1,4 @@
+//! A law of blocked cells.
 ghost use Rattle.std.specs.Prelude.{◌≤◌, ℕ, ℤ, IsTrue};
 ghost use Rattle.nav_types.specs.Cells.{cell_at};
 ghost use Rattle.obstruction_shapes.specs.declared.shapes.Shape.{Shape};

@@ -1,3 +1,4 @@
+//! The rectangle of cells that a shape can block.
 ghost use Rattle.std.specs.Prelude.{◌≡◌, ◌≤◌, ◌^◌, ◌↔◌, IfSome, IfNone, IsTrue};
 ghost use Rattle.nav_types.specs.declared.cells.Cell.{Cell};
 ghost use Rattle.nav_types.specs.Cells.{IsInside, IsInRect, IsRectInside};

@@ -1,3 +1,4 @@
+//! The shapes of obstructions, and whether one fits a map.
 ghost use Rattle.std.specs.Prelude.{◌≡◌, Some, codes};
 ghost use Rattle.std.specs.Result.{OkIff};
 ghost use Rattle.obstruction_shapes.specs.Shapes.{turned_of, moved_to, FitsMap};

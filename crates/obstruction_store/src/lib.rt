@@ -1,10 +1,12 @@
 //! The standing obstructions of a map, by number: [`Store`].
 //!
 //! They are found, added, moved and removed by their number without a look at the others, and listed in the order of
-//! numbers ([`Store::listed`]). Contracts see a finite map from number to obstruction. Behind it lie pages, each a slab
-//! with an index by number; a store and its copy share each page on which none of them has changed anything since, so
-//! that a copy costs a few pointers. The first edit of a shared page copies it, and later ones change it where it stands.
-//! What an obstruction blocks is for other crates to say.
+//! numbers ([`Store::listed`]). Contracts see a finite map from number to obstruction. What an obstruction blocks is for
+//! other crates to say.
+//!
+//! Behind the map lie pages, each a slab with an index by number; a store and its copy share each page on which none of
+//! them has changed anything since, so that a copy costs a few pointers. The first edit of a shared page copies it, and
+//! later ones change it where it stands.
 #![tactic(auto)]
 
 mod entries;

@@ -5,8 +5,8 @@
 //!                                     ^-- current            only the current one is sorted
 //! ```
 //!
-//! It is a bucket queue, whatever its name says. Contracts see a finite map from key to estimate ([`OpenHeap`]). To lower
-//! an estimate is to push it again, and to remove a key is to forget its estimate; the older entry is passed over when it
+//! It is a bucket queue, though its name says heap. Contracts see a finite map from key to estimate ([`OpenHeap`]). To
+//! decrease a key is to push it again, and to remove one is to forget its estimate; the older entry is passed over when it
 //! is met. Memory grows with the greatest key and with how far estimates lie apart, and is kept between searches. Which of
 //! equal estimates comes first is left open: a search must not depend on it.
 #![tactic(auto)]

@@ -25,13 +25,13 @@ use Rattle.turn_core.proofs.ReplyCounts.{as_many}
 use Rattle.path_service.proofs.machine.Settling.{replies_counted}
 use Rattle.turn_core.proofs.Threads.{standing_more}
 use Rattle.turn_core.proofs.TurnByTurn.{told_more, replies_end}
-use Rattle.path_service.specs.declared.ports.Port.{Port}
+use Rattle.path_service.specs.declared.channels.Channel.{Channel}
 use Rattle.path_service.specs.declared.runs.AnsweredRun.{AnsweredRun}
 use Rattle.path_service.specs.declared.drivers.Driver.TheInside.{Inside}
 use Rattle.path_service.specs.Services.{DriverState}
 use Rattle.path_service.specs.Steps.{AreRepliesTo, AreDue, BeginEach, HasDelivered, HasSentSome}
 use Rattle.path_service.specs.inner.Zips.{zipped, AllPaired}
-use Rattle.path_service.specs.inner.Ports.{sends, posted_in, told_in, sent_in, ids_from, IsInRoom, HasRoomOn, SendsParts}
+use Rattle.path_service.specs.inner.Channels.{sends, posted_in, told_in, sent_in, ids_from, IsInRoom, HasRoomOn, SendsParts}
 use Rattle.nav_types.specs.declared.sequences.NoMemory.{NoMemory}
 use Rattle.path_service.specs.inner.Running.{version_for_next, HoldsRun, HoldsRunning}
 use Rattle.path_service.specs.inner.Holding.{told_up, turn_of, run_of, AreLast, state_with, machine_of, driver_of, HoldsStaged, HoldsBroken, HoldsDriver}
@@ -78,39 +78,39 @@ turn_wide s run facts is =
     (lists_back s.map.callers s.done (run.turn ∷ []) (lists_front s.map.callers (s.done ++ run.turn ∷ []) (staged_turns s.staged)
     (subst (λ (o : Option Run). HaveLists s.map.callers (s.done ++ running_turns o ++ staged_turns s.staged)) is facts.wide.turns))).0
 
-pub wide_replies : (a : Inside) (run : AnsweredRun) → HoldsDriver a → a.running ≡ Some run → length run.replies.replies ≡ length a.ports.items
+pub wide_replies : (a : Inside) (run : AnsweredRun) → HoldsDriver a → a.running ≡ Some run → length run.replies.replies ≡ length a.channels.items
 wide_replies a run holds is =
     length_replies a.map (after_turn a.map (standing a.map bare a.journal.items) run.posts) (standing a.map bare a.journal.items) run.posts run.replies.replies (replies_held a run holds is)
     ∙ turn_wide (machine_of a) (answered_run run.posts run.answers.value) holds.facts (runs a run is)
     ∙ sym holds.facts.wide.posted
-    ∙ length-map a.ports.items (λ (p : Port). p.posts.taken)
+    ∙ length-map a.channels.items (λ (p : Channel). p.posts.taken)
 
 -- ---- the lanes have room for the replies
 
-room_at : (ports : List Port) (c : ℕ) (port : Port) → slice_get ports c ≡ Some port → All IsInRoom ports → length (list_of (posted_in ports) c) ≤ 2 ^ 62
-room_at [] zero port is all = cc
-room_at [] (suc c) port is all = cc
-room_at (p ∷ ports) zero port is all = All-head IsInRoom p ports all
-room_at (p ∷ ports) (suc c) port is all = room_at ports c port is (All-tail IsInRoom p ports all)
+room_at : (channels : List Channel) (c : ℕ) (channel : Channel) → slice_get channels c ≡ Some channel → All IsInRoom channels → length (list_of (posted_in channels) c) ≤ 2 ^ 62
+room_at [] zero channel is all = cc
+room_at [] (suc c) channel is all = cc
+room_at (p ∷ channels) zero channel is all = All-head IsInRoom p channels all
+room_at (p ∷ channels) (suc c) channel is all = room_at channels c channel is (All-tail IsInRoom p channels all)
 
-pub sent_at : (ports : List Port) (c : ℕ) (port : Port) → slice_get ports c ≡ Some port → port.replies.posted ≡ list_of (sent_in ports) c
-sent_at [] zero port is = cc
-sent_at [] (suc c) port is = cc
-sent_at (p ∷ ports) zero port is =
-    let same : p ≡ port = cc in
-    ap (λ (q : Port). q.replies.posted) (sym same)
-sent_at (p ∷ ports) (suc c) port is = sent_at ports c port is
+pub sent_at : (channels : List Channel) (c : ℕ) (channel : Channel) → slice_get channels c ≡ Some channel → channel.replies.posted ≡ list_of (sent_in channels) c
+sent_at [] zero channel is = cc
+sent_at [] (suc c) channel is = cc
+sent_at (p ∷ channels) zero channel is =
+    let same : p ≡ channel = cc in
+    ap (λ (q : Channel). q.replies.posted) (sym same)
+sent_at (p ∷ channels) (suc c) channel is = sent_at channels c channel is
 
-pub room_for : (a : Inside) (run : AnsweredRun) → HoldsDriver a → a.failed ≡ false → a.running ≡ Some run → AllPaired HasRoomOn a.ports.items run.replies.replies
+pub room_for : (a : Inside) (run : AnsweredRun) → HoldsDriver a → a.failed ≡ false → a.running ≡ Some run → AllPaired HasRoomOn a.channels.items run.replies.replies
 room_for a run holds sound is =
-    paired_from HasRoomOn a.ports.items run.replies.replies (λ c port at.
+    paired_from HasRoomOn a.channels.items run.replies.replies (λ c channel at.
     let m : Map = a.map in
     let s : State = machine_of a in
     let journal : List (List (List Post)) = a.journal.items in
     let all : List (List (List Reply)) = replies_in a.replies.items in
     let due : List (List Reply) = run.replies.replies in
     let before : Standing = standing m bare journal in
-    let sent : length (list_of (sent_in a.ports.items) c) ≡ length (of_caller c all) = ap length (sent_all (driver_of a) a.replies.items holds.sent sound c ∙ append-nil (of_caller c all)) in
+    let sent : length (list_of (sent_in a.channels.items) c) ≡ length (of_caller c all) = ap length (sent_all (driver_of a) a.replies.items holds.sent sound c ∙ append-nil (of_caller c all)) in
     let answered : length (of_caller c all) ≡ length (of_caller c journal) = as_many m bare journal all c holds.answered.replies in
     let counted : length (list_of s.replies c) ≡ length (of_caller c journal) = ap length (holds.facts.replies.each c) ∙ as_many m bare journal holds.facts.replies.all c holds.facts.replies.one_thread in
     let given : length (list_of due c ++ []) ≡ length (list_of run.posts c ++ []) = as_many m before (run.posts ∷ []) (due ∷ []) c (replies_held a run holds is, tt) in
@@ -125,9 +125,9 @@ room_for a run holds sound is =
       ap length (append-nil (list_of due c)),
       replies_counted s c holds.facts,
       holds.facts.taken c,
-      room_at a.ports.items c port at holds.room,
-      ap length (sent_at a.ports.items c port at),
-      length-append port.replies.posted (list_of due c),
+      room_at a.channels.items c channel at holds.room,
+      ap length (sent_at a.channels.items c channel at),
+      length-append channel.replies.posted (list_of due c),
     ))
 
 -- ---- the turn is delivered
@@ -136,8 +136,8 @@ room_for a run holds sound is =
 pub record Delivers (a b : Inside) (run : AnsweredRun) : Type 0 where
   pub map : b.map ≡ a.map
   pub version : b.version ≡ run.after
-  pub ports : b.ports.items ≡ zipped sends a.ports.items run.replies.replies
-  pub hands : b.hands.items ≡ a.hands.items
+  pub channels : b.channels.items ≡ zipped sends a.channels.items run.replies.replies
+  pub all_pending : b.all_pending.items ≡ a.all_pending.items
   pub staged : b.staged ≡ a.staged
   pub running : b.running ≡ None
   pub broken : b.broken ≡ a.broken
@@ -148,16 +148,16 @@ pub record Delivers (a b : Inside) (run : AnsweredRun) : Type 0 where
 delivered_is : (a b : Inside) (run : AnsweredRun) → HoldsDriver a → a.failed ≡ false → a.running ≡ Some run → Delivers a b run
     → machine_of b ≡ at_end (machine_of a) run.posts run.replies.replies
 delivered_is a b run holds sound is new =
-    let posted : posted_in b.ports.items ≡ posted_in a.ports.items = ap posted_in new.ports ∙ posted_sends a.ports.items run.replies.replies in
+    let posted : posted_in b.channels.items ≡ posted_in a.channels.items = ap posted_in new.channels ∙ posted_sends a.channels.items run.replies.replies in
     let none : run_of b.running b.broken ≡ None = ap (λ (o : Option AnsweredRun). run_of o b.broken) new.running ∙ ap (λ (o : Option (List (List Post))). run_of None o) (new.broken ∙ no_broken a.failed a.broken holds.broken sound) in
     let told : told_up (replicate a.map.callers []) b.replies.items ≡ joined_up (told_up (replicate a.map.callers []) a.replies.items) run.replies.replies =
     ap (told_up (replicate a.map.callers [])) new.replies ∙ told_up_push (replicate a.map.callers []) a.replies.items run.replies in
-    ap (λ (m : Map). state_with m (posted_in b.ports.items) b.hands.items (turn_of b.staged) (run_of b.running b.broken) b.journal.items b.replies.items) new.map
-    ∙ ap (λ (p : List (List Post)). state_with a.map p b.hands.items (turn_of b.staged) (run_of b.running b.broken) b.journal.items b.replies.items) posted
-    ∙ ap (λ (h : List (List Post)). state_with a.map (posted_in a.ports.items) h (turn_of b.staged) (run_of b.running b.broken) b.journal.items b.replies.items) new.hands
-    ∙ ap (λ (o : Option Ready). state_with a.map (posted_in a.ports.items) a.hands.items (turn_of o) (run_of b.running b.broken) b.journal.items b.replies.items) new.staged
-    ∙ ap (λ (o : Option Run). state_with a.map (posted_in a.ports.items) a.hands.items (turn_of a.staged) o b.journal.items b.replies.items) none
-    ∙ ap (λ (j : List (List (List Post))). state_with a.map (posted_in a.ports.items) a.hands.items (turn_of a.staged) None j b.replies.items) new.journal
+    ap (λ (m : Map). state_with m (posted_in b.channels.items) b.all_pending.items (turn_of b.staged) (run_of b.running b.broken) b.journal.items b.replies.items) new.map
+    ∙ ap (λ (p : List (List Post)). state_with a.map p b.all_pending.items (turn_of b.staged) (run_of b.running b.broken) b.journal.items b.replies.items) posted
+    ∙ ap (λ (h : List (List Post)). state_with a.map (posted_in a.channels.items) h (turn_of b.staged) (run_of b.running b.broken) b.journal.items b.replies.items) new.all_pending
+    ∙ ap (λ (o : Option Ready). state_with a.map (posted_in a.channels.items) a.all_pending.items (turn_of o) (run_of b.running b.broken) b.journal.items b.replies.items) new.staged
+    ∙ ap (λ (o : Option Run). state_with a.map (posted_in a.channels.items) a.all_pending.items (turn_of a.staged) o b.journal.items b.replies.items) none
+    ∙ ap (λ (j : List (List (List Post))). state_with a.map (posted_in a.channels.items) a.all_pending.items (turn_of a.staged) None j b.replies.items) new.journal
     ∙ ap (λ (r : List (List Reply)). record (machine_of a) { running = None; done = a.journal.items ++ run.posts ∷ []; replies = r }) told
 
 pub delivered_step : (a b : Inside) (run : AnsweredRun) → HoldsDriver a → a.failed ≡ false → a.running ≡ Some run → Delivers a b run → IsStep (machine_of a) Deliver None (machine_of b)
@@ -167,8 +167,8 @@ delivered_step a b run holds sound is new =
     (subst (λ (v : MapState). AreAnswersTo v.map (after_turn v.map v.standing run.posts) (jobs run.posts) run.answers.value) (version_is a holds) (held_is a run holds is).answers)
     (replies_held a run holds is))
 
-sent_more : (a b : Inside) (run : AnsweredRun) → HoldsDriver a → a.failed ≡ false → a.running ≡ Some run → Delivers a b run → sent_in b.ports.items ≡ joined_up (sent_in a.ports.items) run.replies.replies
-sent_more a b run holds sound is new = ap sent_in new.ports ∙ sent_sends a.ports.items run.replies.replies (omega (arith, wide_replies a run holds is))
+sent_more : (a b : Inside) (run : AnsweredRun) → HoldsDriver a → a.failed ≡ false → a.running ≡ Some run → Delivers a b run → sent_in b.channels.items ≡ joined_up (sent_in a.channels.items) run.replies.replies
+sent_more a b run holds sound is new = ap sent_in new.channels ∙ sent_sends a.channels.items run.replies.replies (omega (arith, wide_replies a run holds is))
 
 pub delivered_holds : (a b : Inside) (run : AnsweredRun) → HoldsDriver a → a.failed ≡ false → a.running ≡ Some run → Delivers a b run → HoldsDriver b
 delivered_holds a b run holds sound is new =
@@ -177,8 +177,8 @@ delivered_holds a b run holds sound is new =
     let held : HoldsRun a.version run = held_is a run holds is in
     let told : IsTurnTold m before run.posts run.replies = subst (λ (v : MapState). IsTurnTold v.map v.standing run.posts run.replies) (version_is a holds) held.told in
     let stands : run.after.standing ≡ after_turn m before run.posts = held.standing ∙ ap (λ (v : MapState). after_turn v.map v.standing run.posts) (version_is a holds) in
-    let posted : posted_in b.ports.items ≡ posted_in a.ports.items = ap posted_in new.ports ∙ posted_sends a.ports.items run.replies.replies in
-    let sent : sent_in b.ports.items ≡ joined_up (sent_in a.ports.items) run.replies.replies = sent_more a b run holds sound is new in
+    let posted : posted_in b.channels.items ≡ posted_in a.channels.items = ap posted_in new.channels ∙ posted_sends a.channels.items run.replies.replies in
+    let sent : sent_in b.channels.items ≡ joined_up (sent_in a.channels.items) run.replies.replies = sent_more a b run holds sound is new in
     let longer : IsOneThread m (a.journal.items ++ run.posts ∷ []) (a.replies.items ++ run.replies ∷ []) = told_more m a.journal.items run.posts a.replies.items run.replies holds.answered told in
     record {
       facts = kept (machine_of a) Deliver None (machine_of b) holds.facts (delivered_step a b run holds sound is new);
@@ -196,13 +196,13 @@ delivered_holds a b run holds sound is new =
           (subst (λ (v : MapState). HoldsStaged v b.staged) (sym new.version)
           (subst (HoldsStaged run.after) (sym new.staged)
           (subst (λ (o : Option AnsweredRun). HoldsStaged (version_for_next a.version o) a.staged) is (holds.staged sound))));
-      last = subst (λ (p : List (List Post)). AreLast p b.hands.items) (sym posted) (subst (AreLast (posted_in a.ports.items)) (sym new.hands) holds.last);
-      few = subst (λ (h : List (List Post)). post_count h ≤ MAX_STAGED_POSTS) (sym new.hands) holds.few;
-      room = subst (All IsInRoom) (sym new.ports) (room_sends a.ports.items run.replies.replies holds.room);
+      last = subst (λ (p : List (List Post)). AreLast p b.all_pending.items) (sym posted) (subst (AreLast (posted_in a.channels.items)) (sym new.all_pending) holds.last);
+      few = subst (λ (h : List (List Post)). post_count h ≤ MAX_STAGED_POSTS) (sym new.all_pending) holds.few;
+      room = subst (All IsInRoom) (sym new.channels) (room_sends a.channels.items run.replies.replies holds.room);
       sent = record {
         more = [];
         sent = λ c. ap (λ (l : List (List Reply)). list_of l c) sent
-            ∙ joined_up_at (sent_in a.ports.items) run.replies.replies c
+            ∙ joined_up_at (sent_in a.channels.items) run.replies.replies c
             ∙ ap (λ (l : List Reply). l ++ list_of run.replies.replies c) (sent_all (driver_of a) a.replies.items holds.sent sound c ∙ append-nil (of_caller c (replies_in a.replies.items)))
             ∙ sym (of_caller_push c (replies_in a.replies.items) run.replies.replies)
             ∙ ap (of_caller c) (sym (replies_end a.replies.items run.replies) ∙ ap replies_in (sym new.replies))
@@ -214,9 +214,9 @@ delivered_holds a b run holds sound is new =
 pub has_delivered : (a b : Inside) (run : AnsweredRun) → HoldsDriver a → a.failed ≡ false → a.running ≡ Some run → Delivers a b run → HasDelivered (driver_of a) (driver_of b)
 has_delivered a b run holds sound is new =
     let due : List (List Reply) = run.replies.replies in
-    let ids : ids_from 0 b.ports.items ≡ ids_from 0 a.ports.items = ap (ids_from 0) new.ports ∙ ids_sends 0 a.ports.items due in
-    let told : told_in b.ports.items ≡ told_in a.ports.items = ap told_in new.ports ∙ told_sends a.ports.items due in
-    let sent : sent_in b.ports.items ≡ joined_up (sent_in a.ports.items) due = sent_more a b run holds sound is new in
+    let ids : ids_from 0 b.channels.items ≡ ids_from 0 a.channels.items = ap (ids_from 0) new.channels ∙ ids_sends 0 a.channels.items due in
+    let told : told_in b.channels.items ≡ told_in a.channels.items = ap told_in new.channels ∙ told_sends a.channels.items due in
+    let sent : sent_in b.channels.items ≡ joined_up (sent_in a.channels.items) due = sent_more a b run holds sound is new in
     record {
       step = delivered_step a b run holds sound is new;
       due = due;
@@ -228,24 +228,24 @@ has_delivered a b run holds sound is new =
 
 -- what is new of a driver that has not
 pub record SendsSome (a b : Inside) (parts : List (List Reply)) : Type 0 where
-  pub ports : b.ports.items ≡ zipped sends a.ports.items parts
-  pub few : length parts ≤ length a.ports.items
+  pub channels : b.channels.items ≡ zipped sends a.channels.items parts
+  pub few : length parts ≤ length a.channels.items
   pub journal : b.journal.items ≡ a.journal.items
   pub replies : b.replies.items ≡ a.replies.items
   pub failed : b.failed ≡ true
-  pub rest : (b.map ≡ a.map) × ((b.version ≡ a.version) × ((b.hands.items ≡ a.hands.items) × ((b.staged ≡ a.staged) × ((b.running ≡ a.running) × (b.broken ≡ a.broken)))))
+  pub rest : (b.map ≡ a.map) × ((b.version ≡ a.version) × ((b.all_pending.items ≡ a.all_pending.items) × ((b.staged ≡ a.staged) × ((b.running ≡ a.running) × (b.broken ≡ a.broken)))))
 
 stays : (a b : Inside) (parts : List (List Reply)) → SendsSome a b parts → machine_of b ≡ machine_of a
 stays a b parts new =
-    let posted : posted_in b.ports.items ≡ posted_in a.ports.items = ap posted_in new.ports ∙ posted_sends a.ports.items parts in
+    let posted : posted_in b.channels.items ≡ posted_in a.channels.items = ap posted_in new.channels ∙ posted_sends a.channels.items parts in
     let r = new.rest in
     λ i. state_with (r.0 i) (posted i) (r.1.1.0 i) (turn_of (r.1.1.1.0 i)) (run_of (r.1.1.1.1.0 i) (r.1.1.1.1.1 i)) (new.journal i) (new.replies i)
 
 pub unsent_holds : (a b : Inside) (run : AnsweredRun) (parts : List (List Reply)) → HoldsDriver a → a.failed ≡ false → a.running ≡ Some run → BeginEach parts run.replies.replies → SendsSome a b parts → HoldsDriver b
 unsent_holds a b run parts holds sound is begins new =
     let r = new.rest in
-    let posted : posted_in b.ports.items ≡ posted_in a.ports.items = ap posted_in new.ports ∙ posted_sends a.ports.items parts in
-    let sent : sent_in b.ports.items ≡ joined_up (sent_in a.ports.items) parts = ap sent_in new.ports ∙ sent_sends a.ports.items parts new.few in
+    let posted : posted_in b.channels.items ≡ posted_in a.channels.items = ap posted_in new.channels ∙ posted_sends a.channels.items parts in
+    let sent : sent_in b.channels.items ≡ joined_up (sent_in a.channels.items) parts = ap sent_in new.channels ∙ sent_sends a.channels.items parts new.few in
     let same : machine_of b ≡ machine_of a = stays a b parts new in
     record {
       facts = subst Facts (sym same) holds.facts;
@@ -257,13 +257,13 @@ unsent_holds a b run parts holds sound is begins new =
       running = subst (λ (v : MapState). HoldsRunning v b.running) (sym r.1.0) (subst (HoldsRunning a.version) (sym r.1.1.1.1.0) holds.running);
       broken = subst (λ (f : Bool). HoldsBroken f b.broken) (sym new.failed) (subst (HoldsBroken true) (sym (r.1.1.1.1.1 ∙ no_broken a.failed a.broken holds.broken sound)) tt);
       staged = λ e. absurd (both_ways b.failed e new.failed);
-      last = subst (λ (p : List (List Post)). AreLast p b.hands.items) (sym posted) (subst (AreLast (posted_in a.ports.items)) (sym r.1.1.0) holds.last);
+      last = subst (λ (p : List (List Post)). AreLast p b.all_pending.items) (sym posted) (subst (AreLast (posted_in a.channels.items)) (sym r.1.1.0) holds.last);
       few = subst (λ (h : List (List Post)). post_count h ≤ MAX_STAGED_POSTS) (sym r.1.1.0) holds.few;
-      room = subst (All IsInRoom) (sym new.ports) (room_sends a.ports.items parts holds.room);
+      room = subst (All IsInRoom) (sym new.channels) (room_sends a.channels.items parts holds.room);
       sent = record {
         more = parts;
         sent = λ c. ap (λ (l : List (List Reply)). list_of l c) sent
-            ∙ joined_up_at (sent_in a.ports.items) parts c
+            ∙ joined_up_at (sent_in a.channels.items) parts c
             ∙ ap (λ (l : List Reply). l ++ list_of parts c) (sent_all (driver_of a) a.replies.items holds.sent sound c ∙ append-nil (of_caller c (replies_in a.replies.items)))
             ∙ ap (λ (l : List TurnReplies). of_caller c (replies_in l) ++ list_of parts c) (sym new.replies);
         begins = inr (new.failed, (run.replies.replies, (subst (λ (s : State). AreDue s run.replies.replies) (sym same) (due_held a run holds is), begins)));
@@ -272,9 +272,9 @@ unsent_holds a b run parts holds sound is begins new =
 
 pub has_sent_some : (a b : Inside) (run : AnsweredRun) (parts : List (List Reply)) → HoldsDriver a → a.running ≡ Some run → BeginEach parts run.replies.replies → SendsSome a b parts → HasSentSome (driver_of a) (driver_of b)
 has_sent_some a b run parts holds is begins new =
-    let ids : ids_from 0 b.ports.items ≡ ids_from 0 a.ports.items = ap (ids_from 0) new.ports ∙ ids_sends 0 a.ports.items parts in
-    let told : told_in b.ports.items ≡ told_in a.ports.items = ap told_in new.ports ∙ told_sends a.ports.items parts in
-    let sent : sent_in b.ports.items ≡ joined_up (sent_in a.ports.items) parts = ap sent_in new.ports ∙ sent_sends a.ports.items parts new.few in
+    let ids : ids_from 0 b.channels.items ≡ ids_from 0 a.channels.items = ap (ids_from 0) new.channels ∙ ids_sends 0 a.channels.items parts in
+    let told : told_in b.channels.items ≡ told_in a.channels.items = ap told_in new.channels ∙ told_sends a.channels.items parts in
+    let sent : sent_in b.channels.items ≡ joined_up (sent_in a.channels.items) parts = ap sent_in new.channels ∙ sent_sends a.channels.items parts new.few in
     let same : machine_of b ≡ machine_of a = stays a b parts new in
     record {
       due = run.replies.replies;
@@ -300,14 +300,14 @@ sends_of a d run view sound holds is = record {
 }
 
 -- all replies were sent, and the turn is behind those that are delivered
-pub delivers_of : (a b : Inside) (run : AnsweredRun) (parts : List (List Reply)) → SendsParts a.ports.items b.ports.items run.replies.replies (Ok tt) parts
-    → b ≡ record a { version = run.after; ports = b.ports; running = None; journal = b.journal; replies = b.replies } → b.journal.items ≡ a.journal.items ++ run.posts ∷ []
+pub delivers_of : (a b : Inside) (run : AnsweredRun) (parts : List (List Reply)) → SendsParts a.channels.items b.channels.items run.replies.replies (Ok tt) parts
+    → b ≡ record a { version = run.after; channels = b.channels; running = None; journal = b.journal; replies = b.replies } → b.journal.items ≡ a.journal.items ++ run.posts ∷ []
     → b.replies.items ≡ a.replies.items ++ run.replies ∷ [] → Delivers a b run
 delivers_of a b run parts sent same journal replies = record {
   map = ap (λ (x : Inside). x.map) same;
   version = ap (λ (x : Inside). x.version) same;
-  ports = sent.ports ∙ ap (zipped sends a.ports.items) sent.are_parts;
-  hands = ap (λ (x : Inside). x.hands.items) same;
+  channels = sent.channels ∙ ap (zipped sends a.channels.items) sent.are_parts;
+  all_pending = ap (λ (x : Inside). x.all_pending.items) same;
   staged = ap (λ (x : Inside). x.staged) same;
   running = ap (λ (x : Inside). x.running) same;
   broken = ap (λ (x : Inside). x.broken) same;
@@ -317,19 +317,19 @@ delivers_of a b run parts sent same journal replies = record {
 }
 
 -- the same, where room for the turn was taken before it was put there
-pub delivers_by : (a b : Inside) (run : AnsweredRun) (parts : List (List Reply)) (journal : List (List (List Post))) (replies : List TurnReplies) → SendsParts a.ports.items b.ports.items run.replies.replies (Ok tt) parts
-    → b ≡ record a { version = run.after; ports = b.ports; running = b.running; journal = b.journal; replies = b.replies } → b.running ≡ None → journal ≡ a.journal.items → b.journal.items ≡ journal ++ run.posts ∷ []
+pub delivers_by : (a b : Inside) (run : AnsweredRun) (parts : List (List Reply)) (journal : List (List (List Post))) (replies : List TurnReplies) → SendsParts a.channels.items b.channels.items run.replies.replies (Ok tt) parts
+    → b ≡ record a { version = run.after; channels = b.channels; running = b.running; journal = b.journal; replies = b.replies } → b.running ≡ None → journal ≡ a.journal.items → b.journal.items ≡ journal ++ run.posts ∷ []
     → replies ≡ a.replies.items → b.replies.items ≡ replies ++ run.replies ∷ [] → Delivers a b run
 delivers_by a b run parts journal replies sent same none kept pushed held told =
     delivers_of a b run parts sent
-    (same ∙ ap (λ (o : Option AnsweredRun). record a { version = run.after; ports = b.ports; running = o; journal = b.journal; replies = b.replies }) none)
+    (same ∙ ap (λ (o : Option AnsweredRun). record a { version = run.after; channels = b.channels; running = o; journal = b.journal; replies = b.replies }) none)
     (pushed ∙ ap (λ (l : List (List (List Post))). l ++ run.posts ∷ []) kept) (told ∙ ap (λ (l : List TurnReplies). l ++ run.replies ∷ []) held)
 
 -- some were sent, and the driver has failed
-pub sends_some_of : (a b : Inside) (run : AnsweredRun) (refused : NoMemory) (parts : List (List Reply)) → SendsParts a.ports.items b.ports.items run.replies.replies (Err refused) parts → a.running ≡ Some run
-    → b ≡ record a { ports = b.ports; running = Some run; journal = b.journal; replies = b.replies; failed = true } → b.journal.items ≡ a.journal.items → b.replies.items ≡ a.replies.items → SendsSome a b parts
+pub sends_some_of : (a b : Inside) (run : AnsweredRun) (refused : NoMemory) (parts : List (List Reply)) → SendsParts a.channels.items b.channels.items run.replies.replies (Err refused) parts → a.running ≡ Some run
+    → b ≡ record a { channels = b.channels; running = Some run; journal = b.journal; replies = b.replies; failed = true } → b.journal.items ≡ a.journal.items → b.replies.items ≡ a.replies.items → SendsSome a b parts
 sends_some_of a b run refused parts sent is same journal replies = record {
-  ports = sent.ports;
+  channels = sent.channels;
   few = sent.few;
   journal = journal;
   replies = replies;
@@ -339,7 +339,7 @@ sends_some_of a b run refused parts sent is same journal replies = record {
     (
       ap (λ (x : Inside). x.version) same,
       (
-        ap (λ (x : Inside). x.hands.items) same,
+        ap (λ (x : Inside). x.all_pending.items) same,
         (
           ap (λ (x : Inside). x.staged) same,
           (ap (λ (x : Inside). x.running) same ∙ sym is, ap (λ (x : Inside). x.broken) same),

@@ -19,40 +19,40 @@ use Rattle.path_service.specs.inner.Holding.{AreLast, state_with}
 use Rattle.path_service.proofs.HandLists.{last_wide, before_joined, hands_are, before_staged, past_first_at, no_posts}
 
 -- posts are taken off the lanes, whatever else the state has
-pub received : (m : Map) (posted hands got : List (List Post)) (staged : Option (List (List Post))) (running : Option Run) (journal : List (List (List Post))) (all : List TurnReplies)
-    → Facts (state_with m posted hands staged running journal all) → AreLast posted hands → length got ≡ m.callers
-    → Reaches (state_with m posted hands staged running journal all) (post_events 0 got) (state_with m (joined_up posted got) (joined_up hands got) staged running journal all)
-received m posted hands got staged running journal all facts last wide =
-    let s : State = state_with m posted hands staged running journal all in
-    let each : length got ≡ length hands = wide ∙ sym facts.wide.posted ∙ sym (last_wide posted hands last) in
-    subst (λ (taken : List ℕ). Reaches s (post_events 0 got) (record s { posted = joined_up posted got; taken = taken })) (sym (before_joined posted hands got each last))
+pub received : (m : Map) (posted all_pending got : List (List Post)) (staged : Option (List (List Post))) (running : Option Run) (journal : List (List (List Post))) (all : List TurnReplies)
+    → Facts (state_with m posted all_pending staged running journal all) → AreLast posted all_pending → length got ≡ m.callers
+    → Reaches (state_with m posted all_pending staged running journal all) (post_events 0 got) (state_with m (joined_up posted got) (joined_up all_pending got) staged running journal all)
+received m posted all_pending got staged running journal all facts last wide =
+    let s : State = state_with m posted all_pending staged running journal all in
+    let each : length got ≡ length all_pending = wide ∙ sym facts.wide.posted ∙ sym (last_wide posted all_pending last) in
+    subst (λ (taken : List ℕ). Reaches s (post_events 0 got) (record s { posted = joined_up posted got; taken = taken })) (sym (before_joined posted all_pending got each last))
     (all_post s got facts.wide.posted wide)
 
 -- what holds after a run
 pub facts_after : (old : State) (events : List Event) (new : State) → Facts old → Reaches old events new → Facts new
 facts_after old events new facts run = kept_run_of old events run.0 new facts run.1
 
--- the posts in hand can be staged
-can_stage : (s : State) (hands : List (List Post)) → Facts s → in_hand s ≡ hands → CanStage s hands
-can_stage s hands facts is = λ c. (
+-- the pending posts can be staged
+can_stage : (s : State) (all_pending : List (List Post)) → Facts s → in_hand s ≡ all_pending → CanStage s all_pending
+can_stage s all_pending facts is = λ c. (
   [],
-  append-nil (of_caller c (all_turns s) ++ list_of hands c)
-      ∙ ap (λ (l : List Post). l ++ list_of hands c) (facts.posts c)
+  append-nil (of_caller c (all_turns s) ++ list_of all_pending c)
+      ∙ ap (λ (l : List Post). l ++ list_of all_pending c) (facts.posts c)
       ∙ ap (λ (l : List Post). take (slice_index s.taken c) (list_of s.posted c) ++ l) (ap (λ (l : List (List Post)). list_of l c) (sym is) ∙ past_first_at s.posted s.taken c)
       ∙ take-append-drop (slice_index s.taken c) (list_of s.posted c),
 )
 
--- the posts in hand are staged
-pub staged_hands : (m : Map) (posted hands : List (List Post)) (running : Option Run) (journal : List (List (List Post))) (all : List TurnReplies)
-    → Facts (state_with m posted hands None running journal all) → AreLast posted hands
-    → Reaches (state_with m posted hands None running journal all) (Stage (map length hands) ∷ []) (state_with m posted (replicate (length hands) no_posts) (Some hands) running journal all)
-staged_hands m posted hands running journal all facts last =
-    let s : State = state_with m posted hands None running journal all in
-    let wide : length hands ≡ m.callers = last_wide posted hands last ∙ facts.wide.posted in
-    let step : IsStep s (Stage (map length hands)) None (in_stage s hands) = stage_step s hands facts refl wide (can_stage s hands facts (hands_are posted hands last)) in
-    let new : State = state_with m posted (replicate (length hands) no_posts) (Some hands) running journal all in
-    let same : in_stage s hands ≡ new = ap (λ (taken : List ℕ). record s { taken = taken; staged = Some hands }) (sym (before_staged posted hands last)) in
-    reach_step s (Stage (map length hands)) None (in_stage s hands) [] new step (reach_none (in_stage s hands) new same)
+-- the pending posts are staged
+pub staged_hands : (m : Map) (posted all_pending : List (List Post)) (running : Option Run) (journal : List (List (List Post))) (all : List TurnReplies)
+    → Facts (state_with m posted all_pending None running journal all) → AreLast posted all_pending
+    → Reaches (state_with m posted all_pending None running journal all) (Stage (map length all_pending) ∷ []) (state_with m posted (replicate (length all_pending) no_posts) (Some all_pending) running journal all)
+staged_hands m posted all_pending running journal all facts last =
+    let s : State = state_with m posted all_pending None running journal all in
+    let wide : length all_pending ≡ m.callers = last_wide posted all_pending last ∙ facts.wide.posted in
+    let step : IsStep s (Stage (map length all_pending)) None (in_stage s all_pending) = stage_step s all_pending facts refl wide (can_stage s all_pending facts (hands_are posted all_pending last)) in
+    let new : State = state_with m posted (replicate (length all_pending) no_posts) (Some all_pending) running journal all in
+    let same : in_stage s all_pending ≡ new = ap (λ (taken : List ℕ). record s { taken = taken; staged = Some all_pending }) (sym (before_staged posted all_pending last)) in
+    reach_step s (Stage (map length all_pending)) None (in_stage s all_pending) [] new step (reach_none (in_stage s all_pending) new same)
 
 -- the stage of some posts is one event
 pub staging_some : (count : ℕ) (turn : List (List Post)) → 0 < count → staging count turn ≡ Stage (map length turn) ∷ []

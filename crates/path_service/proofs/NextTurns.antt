@@ -20,13 +20,13 @@ use Rattle.path_service.specs.machine.Facts.{Facts}
 use Rattle.path_service.specs.machine.Arrival.{post_events}
 use Rattle.path_service.proofs.machine.Reaching.{reach-append}
 use Rattle.path_service.proofs.machine.CallerLists.{none_at}
-use Rattle.path_service.specs.declared.ports.Port.{Port}
-use Rattle.path_service.specs.declared.intakes.Intake.{Intake}
+use Rattle.path_service.specs.declared.channels.Channel.{Channel}
+use Rattle.path_service.specs.declared.intakes.TurnIntake.{TurnIntake}
 use Rattle.path_service.specs.declared.drivers.Driver.TheInside.{Inside}
 use Rattle.path_service.specs.Services.{in_hand, with_machine}
 use Rattle.path_service.specs.Steps.{staging, HasReceived, HasStaged}
 use Rattle.path_service.specs.inner.Zips.{zipped, AllPaired}
-use Rattle.path_service.specs.inner.Ports.{gained, joins, posted_in, told_in, sent_in, ids_from, IsInRoom, PortHasLooked}
+use Rattle.path_service.specs.inner.Channels.{gained, joins, posted_in, told_in, sent_in, ids_from, IsInRoom, PortHasLooked}
 use Rattle.path_service.specs.inner.Intakes.{Becomes, HasTakenIn}
 use Rattle.path_service.specs.inner.Running.{version_for_next}
 use Rattle.path_service.specs.inner.Holding.{AreLast, turn_of, run_of, state_with, machine_of, driver_of, HoldsStaged, HoldsDriver}
@@ -36,105 +36,105 @@ use Rattle.std.proofs.lemmas.Bool.{both_ways}
 use Rattle.path_service.proofs.HeldStates.{received, facts_after, staged_hands, staging_some, staging_none}
 
 -- the driver with what was taken in
-abbrev pub taken_in : Inside → Intake → Inside
-taken_in a intake = record a { ports = intake.ports; hands = intake.hands; staged = intake.staged }
+abbrev pub taken_in : Inside → TurnIntake → Inside
+taken_in a intake = record a { channels = intake.channels; all_pending = intake.all_pending; staged = intake.staged }
 
 -- the base on which a turn is made ready, where that matters
 abbrev pub IsBase : Inside → Map → Standing → Type 0
 IsBase a m s = a.failed ≡ false → ((version_for_next a.version a.running).map ≡ m) × ((version_for_next a.version a.running).standing ≡ s)
 
--- what the machine did, by what became of the hands
+-- what the machine did, by what became of the pending posts
 abbrev pub Went : List ℕ → State → State → Result ℕ NoMemory → Type 0
 Went told old new (Ok count) = HasStaged told old new count
 Went told old new (Err refused) = HasReceived old new
 
 abbrev pub after_got : Inside → List (List Post) → State
-after_got a got = state_with a.map (joined_up (posted_in a.ports.items) got) (joined_up a.hands.items got) None (run_of a.running a.broken) a.journal.items a.replies.items
+after_got a got = state_with a.map (joined_up (posted_in a.channels.items) got) (joined_up a.all_pending.items got) None (run_of a.running a.broken) a.journal.items a.replies.items
 
 -- the parts of a driver's machine that intake changes
 abbrev pub machine_at : Inside → List (List Post) → List (List Post) → Option (List (List Post)) → State
-machine_at a posted hands staged = state_with a.map posted hands staged (run_of a.running a.broken) a.journal.items a.replies.items
+machine_at a posted all_pending staged = state_with a.map posted all_pending staged (run_of a.running a.broken) a.journal.items a.replies.items
 
-pub wide_ports : (a : Inside) → HoldsDriver a → length a.ports.items ≡ a.map.callers
-wide_ports a holds = sym (length-map a.ports.items (λ (p : Port). p.posts.taken)) ∙ holds.facts.wide.posted
+pub wide_ports : (a : Inside) → HoldsDriver a → length a.channels.items ≡ a.map.callers
+wide_ports a holds = sym (length-map a.channels.items (λ (p : Channel). p.posts.taken)) ∙ holds.facts.wide.posted
 
-pub wide_hands : (a : Inside) → HoldsDriver a → length a.hands.items ≡ length a.ports.items
-wide_hands a holds = last_wide (posted_in a.ports.items) a.hands.items holds.last ∙ length-map a.ports.items (λ (p : Port). p.posts.taken)
+pub wide_hands : (a : Inside) → HoldsDriver a → length a.all_pending.items ≡ length a.channels.items
+wide_hands a holds = last_wide (posted_in a.channels.items) a.all_pending.items holds.last ∙ length-map a.channels.items (λ (p : Channel). p.posts.taken)
 
 -- what is known of an intake at a driver at which nothing is staged
-pub record Known (a : Inside) (m : Map) (s : Standing) (intake : Intake) : Type 0 where
+pub record Known (a : Inside) (m : Map) (s : Standing) (intake : TurnIntake) : Type 0 where
   pub holds : HoldsDriver a
   pub none : turn_of a.staged ≡ None
   pub base : IsBase a m s
-  pub taken : HasTakenIn m s a.ports.items a.hands.items intake
+  pub taken : HasTakenIn m s a.channels.items a.all_pending.items intake
 
 -- the state after the posts were taken, and that it is reached
-pub got_wide : (a : Inside) (m : Map) (s : Standing) (intake : Intake) (k : Known a m s intake) → length k.taken.got ≡ a.map.callers
+pub got_wide : (a : Inside) (m : Map) (s : Standing) (intake : TurnIntake) (k : Known a m s intake) → length k.taken.got ≡ a.map.callers
 got_wide a m s intake k = k.taken.wide ∙ wide_ports a k.holds
 
-old_is : (a : Inside) (m : Map) (s : Standing) (intake : Intake) → Known a m s intake → machine_of a ≡ machine_at a (posted_in a.ports.items) a.hands.items None
-old_is a m s intake k = ap (λ (o : Option (List (List Post))). machine_at a (posted_in a.ports.items) a.hands.items o) k.none
+old_is : (a : Inside) (m : Map) (s : Standing) (intake : TurnIntake) → Known a m s intake → machine_of a ≡ machine_at a (posted_in a.channels.items) a.all_pending.items None
+old_is a m s intake k = ap (λ (o : Option (List (List Post))). machine_at a (posted_in a.channels.items) a.all_pending.items o) k.none
 
-reached : (a : Inside) (m : Map) (s : Standing) (intake : Intake) (k : Known a m s intake) → Reaches (machine_of a) (post_events 0 k.taken.got) (after_got a k.taken.got)
+reached : (a : Inside) (m : Map) (s : Standing) (intake : TurnIntake) (k : Known a m s intake) → Reaches (machine_of a) (post_events 0 k.taken.got) (after_got a k.taken.got)
 reached a m s intake k =
-    let old : State = machine_at a (posted_in a.ports.items) a.hands.items None in
+    let old : State = machine_at a (posted_in a.channels.items) a.all_pending.items None in
     let is : machine_of a ≡ old = old_is a m s intake k in
     subst (λ (t : State). Reaches t (post_events 0 k.taken.got) (after_got a k.taken.got)) (sym is)
-    (received a.map (posted_in a.ports.items) a.hands.items k.taken.got None (run_of a.running a.broken) a.journal.items a.replies.items (subst Facts is k.holds.facts) k.holds.last (got_wide a m s intake k))
+    (received a.map (posted_in a.channels.items) a.all_pending.items k.taken.got None (run_of a.running a.broken) a.journal.items a.replies.items (subst Facts is k.holds.facts) k.holds.last (got_wide a m s intake k))
 
-got_hands : (a : Inside) (m : Map) (s : Standing) (intake : Intake) (k : Known a m s intake) → length k.taken.got ≡ length a.hands.items
+got_hands : (a : Inside) (m : Map) (s : Standing) (intake : TurnIntake) (k : Known a m s intake) → length k.taken.got ≡ length a.all_pending.items
 got_hands a m s intake k = k.taken.wide ∙ sym (wide_hands a k.holds)
 
-last_got : (a : Inside) (m : Map) (s : Standing) (intake : Intake) (k : Known a m s intake) → AreLast (joined_up (posted_in a.ports.items) k.taken.got) (joined_up a.hands.items k.taken.got)
-last_got a m s intake k = last_joined (posted_in a.ports.items) a.hands.items k.taken.got (got_hands a m s intake k) k.holds.last
+last_got : (a : Inside) (m : Map) (s : Standing) (intake : TurnIntake) (k : Known a m s intake) → AreLast (joined_up (posted_in a.channels.items) k.taken.got) (joined_up a.all_pending.items k.taken.got)
+last_got a m s intake k = last_joined (posted_in a.channels.items) a.all_pending.items k.taken.got (got_hands a m s intake k) k.holds.last
 
 -- what was taken off the lanes, once they gave it
-posted_now : (a : Inside) (m : Map) (s : Standing) (intake : Intake) (k : Known a m s intake) → posted_in intake.ports.items ≡ joined_up (posted_in a.ports.items) k.taken.got
-posted_now a m s intake k = ap posted_in k.taken.gains ∙ posted_gained a.ports.items k.taken.got k.taken.wide
+posted_now : (a : Inside) (m : Map) (s : Standing) (intake : TurnIntake) (k : Known a m s intake) → posted_in intake.channels.items ≡ joined_up (posted_in a.channels.items) k.taken.got
+posted_now a m s intake k = ap posted_in k.taken.gains ∙ posted_gained a.channels.items k.taken.got k.taken.wide
 
-hands_were : (a : Inside) (m : Map) (s : Standing) (intake : Intake) (k : Known a m s intake) → in_hand (machine_of a) ≡ a.hands.items
-hands_were a m s intake k = hands_are (posted_in a.ports.items) a.hands.items k.holds.last
+hands_were : (a : Inside) (m : Map) (s : Standing) (intake : TurnIntake) (k : Known a m s intake) → in_hand (machine_of a) ≡ a.all_pending.items
+hands_were a m s intake k = hands_are (posted_in a.channels.items) a.all_pending.items k.holds.last
 
--- the hands, once all is taken
-hands_got : (a : Inside) (m : Map) (s : Standing) (intake : Intake) (k : Known a m s intake) → zipped joins a.hands.items k.taken.got ≡ joined_up (in_hand (machine_of a)) k.taken.got
+-- the pending posts, once all is taken
+hands_got : (a : Inside) (m : Map) (s : Standing) (intake : TurnIntake) (k : Known a m s intake) → zipped joins a.all_pending.items k.taken.got ≡ joined_up (in_hand (machine_of a)) k.taken.got
 hands_got a m s intake k =
-    joins_are a.hands.items k.taken.got (got_hands a m s intake k)
+    joins_are a.all_pending.items k.taken.got (got_hands a m s intake k)
     ∙ ap (λ (h : List (List Post)). joined_up h k.taken.got) (sym (hands_were a m s intake k))
 
-kept_hands : (a : Inside) (m : Map) (s : Standing) (intake : Intake) (k : Known a m s intake) → turn_of intake.staged ≡ None → intake.hands.items ≡ zipped joins a.hands.items k.taken.got
+kept_hands : (a : Inside) (m : Map) (s : Standing) (intake : TurnIntake) (k : Known a m s intake) → turn_of intake.staged ≡ None → intake.all_pending.items ≡ zipped joins a.all_pending.items k.taken.got
     → machine_of (taken_in a intake) ≡ after_got a k.taken.got
 kept_hands a m s intake k none is =
-    ap (λ (p : List (List Post)). machine_at a p intake.hands.items (turn_of intake.staged)) (posted_now a m s intake k)
-    ∙ ap (λ (h : List (List Post)). machine_at a (joined_up (posted_in a.ports.items) k.taken.got) h (turn_of intake.staged)) (is ∙ joins_are a.hands.items k.taken.got (got_hands a m s intake k))
-    ∙ ap (λ (o : Option (List (List Post))). machine_at a (joined_up (posted_in a.ports.items) k.taken.got) (joined_up a.hands.items k.taken.got) o) none
+    ap (λ (p : List (List Post)). machine_at a p intake.all_pending.items (turn_of intake.staged)) (posted_now a m s intake k)
+    ∙ ap (λ (h : List (List Post)). machine_at a (joined_up (posted_in a.channels.items) k.taken.got) h (turn_of intake.staged)) (is ∙ joins_are a.all_pending.items k.taken.got (got_hands a m s intake k))
+    ∙ ap (λ (o : Option (List (List Post))). machine_at a (joined_up (posted_in a.channels.items) k.taken.got) (joined_up a.all_pending.items k.taken.got) o) none
 
-last_kept : (a : Inside) (m : Map) (s : Standing) (intake : Intake) (k : Known a m s intake) → intake.hands.items ≡ zipped joins a.hands.items k.taken.got
-    → AreLast (posted_in intake.ports.items) intake.hands.items
+last_kept : (a : Inside) (m : Map) (s : Standing) (intake : TurnIntake) (k : Known a m s intake) → intake.all_pending.items ≡ zipped joins a.all_pending.items k.taken.got
+    → AreLast (posted_in intake.channels.items) intake.all_pending.items
 last_kept a m s intake k is =
-    subst (λ (p : List (List Post)). AreLast p intake.hands.items) (sym (posted_now a m s intake k))
-    (subst (λ (h : List (List Post)). AreLast (joined_up (posted_in a.ports.items) k.taken.got) h) (sym (is ∙ joins_are a.hands.items k.taken.got (got_hands a m s intake k)))
+    subst (λ (p : List (List Post)). AreLast p intake.all_pending.items) (sym (posted_now a m s intake k))
+    (subst (λ (h : List (List Post)). AreLast (joined_up (posted_in a.channels.items) k.taken.got) h) (sym (is ∙ joins_are a.all_pending.items k.taken.got (got_hands a m s intake k)))
     (last_got a m s intake k))
 
 -- what an intake leaves
-pub record LeftBy (a : Inside) (intake : Intake) (count : Result ℕ NoMemory) : Type 0 where
-  pub went : Went (told_in a.ports.items) (machine_of a) (machine_of (taken_in a intake)) count
-  pub last : AreLast (posted_in intake.ports.items) intake.hands.items
-  pub few : post_count intake.hands.items ≤ MAX_STAGED_POSTS
+pub record LeftBy (a : Inside) (intake : TurnIntake) (count : Result ℕ NoMemory) : Type 0 where
+  pub went : Went (told_in a.channels.items) (machine_of a) (machine_of (taken_in a intake)) count
+  pub last : AreLast (posted_in intake.channels.items) intake.all_pending.items
+  pub few : post_count intake.all_pending.items ≤ MAX_STAGED_POSTS
   pub staged : a.failed ≡ false → HoldsStaged (version_for_next a.version a.running) intake.staged
 
-few_kept : (a : Inside) (m : Map) (s : Standing) (intake : Intake) (k : Known a m s intake) → intake.hands.items ≡ zipped joins a.hands.items k.taken.got → post_count intake.hands.items ≤ MAX_STAGED_POSTS
+few_kept : (a : Inside) (m : Map) (s : Standing) (intake : TurnIntake) (k : Known a m s intake) → intake.all_pending.items ≡ zipped joins a.all_pending.items k.taken.got → post_count intake.all_pending.items ≤ MAX_STAGED_POSTS
 few_kept a m s intake k is = subst (λ (h : List (List Post)). post_count h ≤ MAX_STAGED_POSTS) (sym is) k.taken.few
 
 no_turn : (version : MapState) (o : Option Ready) → o ≡ None → HoldsStaged version o
 no_turn version o e = subst (HoldsStaged version) (sym e) tt
 
-looked_now : (a : Inside) (m : Map) (s : Standing) (intake : Intake) (k : Known a m s intake) (count : ℕ) → intake.count ≡ Ok count → count < MAX_STAGED_POSTS → (c : ℕ)
-    → slice_index (told_in a.ports.items) c ≤ length (list_of (posted_in intake.ports.items) c)
+looked_now : (a : Inside) (m : Map) (s : Standing) (intake : TurnIntake) (k : Known a m s intake) (count : ℕ) → intake.count ≡ Ok count → count < MAX_STAGED_POSTS → (c : ℕ)
+    → slice_index (told_in a.channels.items) c ≤ length (list_of (posted_in intake.channels.items) c)
 looked_now a m s intake k count f less c =
-    let looked : count < MAX_STAGED_POSTS → AllPaired PortHasLooked a.ports.items k.taken.got =
-    subst (λ (r : Result ℕ NoMemory). IfOk r (λ n. n < MAX_STAGED_POSTS → AllPaired PortHasLooked a.ports.items k.taken.got)) f k.taken.looked in
-    subst (λ (ports : List Port). slice_index (told_in a.ports.items) c ≤ length (list_of (posted_in ports) c)) (sym k.taken.gains)
-    (looked_at a.ports.items k.taken.got c k.taken.wide (looked less))
+    let looked : count < MAX_STAGED_POSTS → AllPaired PortHasLooked a.channels.items k.taken.got =
+    subst (λ (r : Result ℕ NoMemory). IfOk r (λ n. n < MAX_STAGED_POSTS → AllPaired PortHasLooked a.channels.items k.taken.got)) f k.taken.looked in
+    subst (λ (channels : List Channel). slice_index (told_in a.channels.items) c ≤ length (list_of (posted_in channels) c)) (sym k.taken.gains)
+    (looked_at a.channels.items k.taken.got c k.taken.wide (looked less))
 
 not_staged : (count : ℕ) (o : Option (List (List Post))) → o ≡ None → count ≡ 0 → IsSome o ↔ (0 < count)
 not_staged count None e zero_count = (λ x. absurd (both_ways false refl x), λ less. absurd (omega (arith, zero_count, less)))
@@ -144,8 +144,8 @@ is_staged : (count : ℕ) (o : Option (List (List Post))) (turn : List (List Pos
 is_staged count None turn e less = cc
 is_staged count (Some other) turn e less = (λ x. less, λ x. refl)
 
-ends : (a : Inside) (m : Map) (s : Standing) (intake : Intake) (k : Known a m s intake) (o : Option Ready) (r : Result ℕ NoMemory) → intake.staged ≡ o → intake.count ≡ r
-    → Becomes m s (zipped joins a.hands.items k.taken.got) intake.hands.items o r → LeftBy a intake r
+ends : (a : Inside) (m : Map) (s : Standing) (intake : TurnIntake) (k : Known a m s intake) (o : Option Ready) (r : Result ℕ NoMemory) → intake.staged ≡ o → intake.count ≡ r
+    → Becomes m s (zipped joins a.all_pending.items k.taken.got) intake.all_pending.items o r → LeftBy a intake r
 ends a m s intake k None (Err refused) e f becomes =
     let none : turn_of intake.staged ≡ None = ap turn_of e in
     record {
@@ -153,7 +153,7 @@ ends a m s intake k None (Err refused) e f becomes =
         got = k.taken.got;
         wide = got_wide a m s intake k;
         run = subst (λ (t : State). Reaches (machine_of a) (post_events 0 k.taken.got) t) (sym (kept_hands a m s intake k none becomes)) (reached a m s intake k);
-        hand = hands_are (posted_in intake.ports.items) intake.hands.items (last_kept a m s intake k becomes) ∙ becomes ∙ hands_got a m s intake k;
+        pending = hands_are (posted_in intake.channels.items) intake.all_pending.items (last_kept a m s intake k becomes) ∙ becomes ∙ hands_got a m s intake k;
         staged = none;
       };
       last = last_kept a m s intake k becomes;
@@ -163,8 +163,8 @@ ends a m s intake k None (Err refused) e f becomes =
 ends a m s intake k None (Ok count) e f becomes =
     let none : turn_of intake.staged ≡ None = ap turn_of e in
     let turn : List (List Post) = joined_up (in_hand (machine_of a)) k.taken.got in
-    let all : zipped joins a.hands.items k.taken.got ≡ turn = hands_got a m s intake k in
-    let last : AreLast (posted_in intake.ports.items) intake.hands.items = last_kept a m s intake k becomes.0 in
+    let all : zipped joins a.all_pending.items k.taken.got ≡ turn = hands_got a m s intake k in
+    let last : AreLast (posted_in intake.channels.items) intake.all_pending.items = last_kept a m s intake k becomes.0 in
     let no_events : post_events 0 k.taken.got ++ staging count turn ≡ post_events 0 k.taken.got =
     ap (λ (es : List Event). post_events 0 k.taken.got ++ es) (staging_none count turn becomes.1.0) ∙ append-nil (post_events 0 k.taken.got) in
     let way : Reaches (machine_of a) (post_events 0 k.taken.got) (machine_of (taken_in a intake)) =
@@ -176,8 +176,8 @@ ends a m s intake k None (Ok count) e f becomes =
         number = becomes.1.0 ∙ sym becomes.1.1 ∙ ap post_count all;
         most = omega (arith, becomes.1.0);
         run = subst (λ (es : List Event). Reaches (machine_of a) es (machine_of (taken_in a intake))) (sym no_events) way;
-        all = λ c. ap (λ (h : List (List Post)). list_of h c) (hands_are (posted_in intake.ports.items) intake.hands.items last ∙ becomes.0)
-            ∙ none_counted (zipped joins a.hands.items k.taken.got) c becomes.1.1;
+        all = λ c. ap (λ (h : List (List Post)). list_of h c) (hands_are (posted_in intake.channels.items) intake.all_pending.items last ∙ becomes.0)
+            ∙ none_counted (zipped joins a.all_pending.items k.taken.got) c becomes.1.1;
         staged = not_staged count (turn_of intake.staged) none becomes.1.0;
         turn = λ less. absurd (omega (arith, becomes.1.0, less));
         running = refl;
@@ -189,17 +189,17 @@ ends a m s intake k None (Ok count) e f becomes =
     }
 ends a m s intake k (Some ready) (Err refused) e f becomes = absurd becomes
 ends a m s intake k (Some ready) (Ok count) e f becomes =
-    let hands : List (List Post) = zipped joins a.hands.items k.taken.got in
+    let all_pending : List (List Post) = zipped joins a.all_pending.items k.taken.got in
     let turn : List (List Post) = joined_up (in_hand (machine_of a)) k.taken.got in
-    let all : hands ≡ turn = hands_got a m s intake k in
-    let joined : hands ≡ joined_up a.hands.items k.taken.got = joins_are a.hands.items k.taken.got (got_hands a m s intake k) in
-    let got : List (List Post) = joined_up a.hands.items k.taken.got in
-    let posted : List (List Post) = joined_up (posted_in a.ports.items) k.taken.got in
-    let empty : intake.hands.items ≡ replicate (length got) no_posts = becomes.0 ∙ ap (λ (h : List (List Post)). replicate (length h) no_posts) joined in
-    let is : ready ≡ record { map = m; before = s; turn = hands } = becomes.1.0 in
+    let all : all_pending ≡ turn = hands_got a m s intake k in
+    let joined : all_pending ≡ joined_up a.all_pending.items k.taken.got = joins_are a.all_pending.items k.taken.got (got_hands a m s intake k) in
+    let got : List (List Post) = joined_up a.all_pending.items k.taken.got in
+    let posted : List (List Post) = joined_up (posted_in a.channels.items) k.taken.got in
+    let empty : intake.all_pending.items ≡ replicate (length got) no_posts = becomes.0 ∙ ap (λ (h : List (List Post)). replicate (length h) no_posts) joined in
+    let is : ready ≡ record { map = m; before = s; turn = all_pending } = becomes.1.0 in
     let ready_turn : turn_of intake.staged ≡ Some got = ap turn_of e ∙ ap (λ (r : Ready). Some r.turn) is ∙ ap (λ (h : List (List Post)). Some h) joined in
     let new_is : machine_of (taken_in a intake) ≡ machine_at a posted (replicate (length got) no_posts) (Some got) =
-    ap (λ (p : List (List Post)). machine_at a p intake.hands.items (turn_of intake.staged)) (posted_now a m s intake k)
+    ap (λ (p : List (List Post)). machine_at a p intake.all_pending.items (turn_of intake.staged)) (posted_now a m s intake k)
     ∙ ap (λ (h : List (List Post)). machine_at a posted h (turn_of intake.staged)) empty
     ∙ ap (λ (o : Option (List (List Post))). machine_at a posted (replicate (length got) no_posts) o) ready_turn in
     let lasts : AreLast posted got = last_got a m s intake k in
@@ -209,8 +209,8 @@ ends a m s intake k (Some ready) (Ok count) e f becomes =
     subst (λ (es : List Event). Reaches (machine_of a) (post_events 0 k.taken.got ++ es) (machine_at a posted (replicate (length got) no_posts) (Some got)))
     (sym (staging_some count turn becomes.1.1.1 ∙ ap (λ (t : List (List Post)). Stage (map length t) ∷ []) (sym all ∙ joined)))
     (reach-append (machine_of a) (post_events 0 k.taken.got) (after_got a k.taken.got) (Stage (map length got) ∷ []) (machine_at a posted (replicate (length got) no_posts) (Some got)) arrived second) in
-    let last : AreLast (posted_in intake.ports.items) intake.hands.items =
-    subst (λ (p : List (List Post)). AreLast p intake.hands.items) (sym (posted_now a m s intake k))
+    let last : AreLast (posted_in intake.channels.items) intake.all_pending.items =
+    subst (λ (p : List (List Post)). AreLast p intake.all_pending.items) (sym (posted_now a m s intake k))
     (subst (AreLast posted) (sym empty) (last_staged posted got lasts)) in
     record {
       went = record {
@@ -219,7 +219,7 @@ ends a m s intake k (Some ready) (Ok count) e f becomes =
         number = becomes.1.1.0 ∙ ap post_count all;
         most = omega (arith, becomes.1.1.0, k.taken.few);
         run = subst (λ (t : State). Reaches (machine_of a) (post_events 0 k.taken.got ++ staging count turn) t) (sym new_is) both;
-        all = λ c. ap (λ (h : List (List Post)). list_of h c) (hands_are (posted_in intake.ports.items) intake.hands.items last ∙ empty) ∙ none_at Post (length got) c;
+        all = λ c. ap (λ (h : List (List Post)). list_of h c) (hands_are (posted_in intake.channels.items) intake.all_pending.items last ∙ empty) ∙ none_at Post (length got) c;
         staged = is_staged count (turn_of intake.staged) got ready_turn becomes.1.1.1;
         turn = λ less. ready_turn ∙ ap (λ (t : List (List Post)). Some t) (sym joined ∙ all);
         running = refl;
@@ -235,7 +235,7 @@ ends a m s intake k (Some ready) (Ok count) e f becomes =
     }
 
 -- what an intake leaves, whatever became of it
-pub leaves : (a : Inside) (m : Map) (s : Standing) (intake : Intake) → Known a m s intake → LeftBy a intake intake.count
+pub leaves : (a : Inside) (m : Map) (s : Standing) (intake : TurnIntake) → Known a m s intake → LeftBy a intake intake.count
 leaves a m s intake k = ends a m s intake k intake.staged intake.count refl refl k.taken.becomes
 
 facts_went : (told : List ℕ) (old new : State) (r : Result ℕ NoMemory) → Facts old → Went told old new r → Facts new
@@ -243,25 +243,25 @@ facts_went told old new (Ok count) facts went = facts_after old _ new facts went
 facts_went told old new (Err refused) facts went = facts_after old _ new facts went.run
 
 -- all but the machine is as it was
-pub same_rest : (a : Inside) (m : Map) (s : Standing) (intake : Intake) → Known a m s intake → driver_of (taken_in a intake) ≡ with_machine (driver_of a) (machine_of (taken_in a intake))
+pub same_rest : (a : Inside) (m : Map) (s : Standing) (intake : TurnIntake) → Known a m s intake → driver_of (taken_in a intake) ≡ with_machine (driver_of a) (machine_of (taken_in a intake))
 same_rest a m s intake k =
-    let ports : List Port = intake.ports.items in
+    let channels : List Channel = intake.channels.items in
     let got : List (List Post) = k.taken.got in
-    let is : ports ≡ zipped gained a.ports.items got = k.taken.gains in
-    let ids : ids_from 0 ports ≡ ids_from 0 a.ports.items = ap (ids_from 0) is ∙ ids_gained 0 a.ports.items got in
-    let told : told_in ports ≡ told_in a.ports.items = ap told_in is ∙ told_gained a.ports.items got in
-    let sent : sent_in ports ≡ sent_in a.ports.items = ap sent_in is ∙ sent_gained a.ports.items got in
+    let is : channels ≡ zipped gained a.channels.items got = k.taken.gains in
+    let ids : ids_from 0 channels ≡ ids_from 0 a.channels.items = ap (ids_from 0) is ∙ ids_gained 0 a.channels.items got in
+    let told : told_in channels ≡ told_in a.channels.items = ap told_in is ∙ told_gained a.channels.items got in
+    let sent : sent_in channels ≡ sent_in a.channels.items = ap sent_in is ∙ sent_gained a.channels.items got in
     λ i. record { machine = machine_of (taken_in a intake); callers = ids i; told = told i; sent = sent i; failed = a.failed }
 
 -- the driver holds what it holds
-pub holds_taken : (a : Inside) (m : Map) (s : Standing) (intake : Intake) → Known a m s intake → HoldsDriver (taken_in a intake)
+pub holds_taken : (a : Inside) (m : Map) (s : Standing) (intake : TurnIntake) → Known a m s intake → HoldsDriver (taken_in a intake)
 holds_taken a m s intake k =
     let left : LeftBy a intake intake.count = leaves a m s intake k in
-    let is : intake.ports.items ≡ zipped gained a.ports.items k.taken.got = k.taken.gains in
-    let sent : sent_in intake.ports.items ≡ sent_in a.ports.items = ap sent_in is ∙ sent_gained a.ports.items k.taken.got in
+    let is : intake.channels.items ≡ zipped gained a.channels.items k.taken.got = k.taken.gains in
+    let sent : sent_in intake.channels.items ≡ sent_in a.channels.items = ap sent_in is ∙ sent_gained a.channels.items k.taken.got in
     let was = k.holds.sent in
     record {
-      facts = facts_went (told_in a.ports.items) (machine_of a) (machine_of (taken_in a intake)) intake.count k.holds.facts left.went;
+      facts = facts_went (told_in a.channels.items) (machine_of a) (machine_of (taken_in a intake)) intake.count k.holds.facts left.went;
       map = k.holds.map;
       standing = k.holds.standing;
       answered = k.holds.answered;
@@ -270,7 +270,7 @@ holds_taken a m s intake k =
       staged = left.staged;
       last = left.last;
       few = left.few;
-      room = subst (All IsInRoom) (sym is) (room_gained a.ports.items k.taken.got k.taken.wide k.taken.room);
+      room = subst (All IsInRoom) (sym is) (room_gained a.channels.items k.taken.got k.taken.wide k.taken.room);
       sent = record {
         more = was.more;
         sent = λ c. ap (λ (l : List (List Reply)). list_of l c) sent ∙ was.sent c;

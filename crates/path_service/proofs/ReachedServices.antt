@@ -31,17 +31,17 @@ turns_past n (turn ∷ journal) c wide past =
     ∙ turns_past n journal c wide.1 past
 
 -- the posts of a caller in the turns that are done are the first of its posts
-done_first : (s : State) (c : ℕ) (hand left posted : List Post) → posted ≡ of_caller c (all_turns s) ++ hand ++ left → (rest : List Post) × (of_caller c s.done ++ rest ≡ posted)
-done_first s c hand left posted e =
+done_first : (s : State) (c : ℕ) (pending left posted : List Post) → posted ≡ of_caller c (all_turns s) ++ pending ++ left → (rest : List Post) × (of_caller c s.done ++ rest ≡ posted)
+done_first s c pending left posted e =
     let done : List Post = of_caller c s.done in
     let running : List Post = of_caller c (running_turns s.running) in
     let staged : List Post = of_caller c (staged_turns s.staged) in
     let turns : of_caller c (all_turns s) ≡ done ++ running ++ staged =
     of_caller-append c (s.done ++ running_turns s.running) (staged_turns s.staged)
     ∙ ap (λ (l : List Post). l ++ staged) (of_caller-append c s.done (running_turns s.running)) in
-    let apart : done ++ (running ++ (staged ++ (hand ++ left))) ≡ done ++ running ++ staged ++ hand ++ left =
-    sym (append_assoc (done ++ running ++ staged) hand left ∙ append_assoc (done ++ running) staged (hand ++ left) ∙ append_assoc done running (staged ++ (hand ++ left))) in
-    (running ++ (staged ++ (hand ++ left)), apart ∙ ap (λ (l : List Post). l ++ hand ++ left) (sym turns) ∙ sym e)
+    let apart : done ++ (running ++ (staged ++ (pending ++ left))) ≡ done ++ running ++ staged ++ pending ++ left =
+    sym (append_assoc (done ++ running ++ staged) pending left ∙ append_assoc (done ++ running) staged (pending ++ left) ∙ append_assoc done running (staged ++ (pending ++ left))) in
+    (running ++ (staged ++ (pending ++ left)), apart ∙ ap (λ (l : List Post). l ++ pending ++ left) (sym turns) ∙ sym e)
 
 first_at : (d : DriverState) (n : ℕ) (ended : List EndedState) → AreNumbered n (map ended_id ended) → All (PostedIsFound d) ended → (c : ℕ) → c < length ended
     → (rest : List Post) × (of_caller (n + c) d.machine.done ++ rest ≡ list_of (map posted_by ended) c)

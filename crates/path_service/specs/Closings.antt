@@ -36,7 +36,7 @@ pub record HasLeft (caller : ClosedCaller) : Type 0 where
   pub posts : (left : List Post) × Leaves caller.posts_left left
   pub replies : (left : List Reply) × Leaves caller.replies_left left
 
--- what a caller posted: its posts in the delivered turns, in the running and in the staged one, then those in hand, and
+-- what a caller posted: its posts in the delivered turns, in the running and in the staged one, then the pending ones, and
 -- then what is left on its lane
 abbrev pub PostedIsFound : DriverState → EndedState → Type 0
 PostedIsFound d ended =

@@ -32,7 +32,7 @@ abbrev pub past_first : List (List Post) → List ℕ → List (List Post)
 past_first [] numbers = []
 past_first (posts ∷ posted) numbers = drop (first numbers) posts ∷ past_first posted (drop 1 numbers)
 
--- the posts in hand: of each caller those that were taken off its lane and are in no turn
+-- the pending posts: of each caller those that were taken off its lane and are in no turn
 abbrev pub in_hand : State → List (List Post)
 in_hand s = past_first s.posted s.taken
 

@@ -21,16 +21,16 @@ abbrev pub staging : ℕ → List (List Post) → List Event
 staging zero turn = []
 staging (suc more) turn = Stage (map length turn) ∷ []
 
--- Posts were taken off the lanes, and are in hand, behind those that were. Nothing is staged.
+-- Posts were taken off the lanes, and are pending, behind those that were. Nothing is staged.
 pub record HasReceived (old new : State) : Type 0 where
   pub got : List (List Post)
   pub wide : length got ≡ old.map.callers
   pub run : Reaches old (post_events 0 got) new
-  pub hand : in_hand new ≡ joined_up (in_hand old) got
+  pub pending : in_hand new ≡ joined_up (in_hand old) got
   pub staged : new.staged ≡ None
 
--- Posts were taken off the lanes, and behind those in hand they are staged: so many posts in all, and none is left in
--- hand. Where the turn is not full, no post is left on a lane of which the driver was told (`told`, by caller).
+-- Posts were taken off the lanes, and behind the pending ones they are staged: so many posts in all, and none is left in
+-- pending. Where the turn is not full, no post is left on a lane of which the driver was told (`told`, by caller).
 pub record HasStaged (told : List ℕ) (old new : State) (count : ℕ) : Type 0 where
   pub got : List (List Post)
   pub wide : length got ≡ old.map.callers
@@ -52,7 +52,7 @@ pub record HasStarted (told : List ℕ) (old new : State) (count : ℕ) : Type 0
   pub next : HasStaged told (in_run old (answered_run turn answers)) new count
 
 -- The staged turn was started, and there was no memory for its answers or for the next turn, whose posts are then in
--- hand.
+-- pending.
 pub record HasBrokenOff (told : List ℕ) (old new : State) : Type 0 where
   pub turn : List (List Post)
   pub staged : old.staged ≡ Some turn

@@ -1,6 +1,6 @@
 pub mod Zips
 pub mod Opening
-pub mod Ports
+pub mod Channels
 pub mod Intakes
 pub mod Running
 pub mod Holding

@@ -3,7 +3,7 @@ ghost use Rattle.std.specs.Prelude.{◌≡◌, ◌≤◌, [], length, vec_capaci
 ghost use Rattle.path_service.specs.inner.Closing.{IsPortOf, ArePortsOf, ClosesPort, ClosePorts};
 
 use crate::callers::{EndedCaller, EndedCallers};
-use crate::ports::Port;
+use crate::channels::Channel;
 use grid_versions::MapSpec;
 use nav_types::Sequence;
 use request_lanes::Whole;
@@ -91,33 +91,33 @@ impl Closed {
 pub(crate) fn close_all(
     rt: &impl Wait,
     room: Vec<ClosedCaller>,
-    ports: Vec<Port>,
+    channels: Vec<Channel>,
     ended: EndedCallers,
 ) -> ClosedCallers
-    requires lanes { ArePortsOf ports.items ended }
+    requires lanes { ArePortsOf channels.items ended }
     requires empty { room.items ≡ [] }
-    requires room { length ports.items ≤ vec_capacity room }
-    ensures { ClosePorts ports.items ended result }
+    requires room { length channels.items ≤ vec_capacity room }
+    ensures { ClosePorts channels.items ended result }
 {
     let mut closed = room;
     let mut callers = ended.into_items().into_iter();
-    for port in ports {
+    for channel in channels {
         let Some(caller) = callers.next() else {
             unreachable!();
         };
-        closed.push_reserved(close_port(rt, port, caller));
+        closed.push_reserved(close_port(rt, channel, caller));
     }
     Sequence::from(closed)
 }
 
 /// Closes the two lanes of a caller.
-fn close_port(rt: &impl Wait, port: Port, ended: EndedCaller) -> ClosedCaller
-    requires { IsPortOf port ended }
-    ensures { ClosesPort port ended result }
+fn close_port(rt: &impl Wait, channel: Channel, ended: EndedCaller) -> ClosedCaller
+    requires { IsPortOf channel ended }
+    ensures { ClosesPort channel ended result }
 {
     let (posts, replies) = ended.into_ends();
     ClosedCaller {
-        posts_left: port.posts.finish(rt, posts),
-        replies_left: replies.finish(rt, port.replies.end()),
+        posts_left: channel.posts.finish(rt, posts),
+        replies_left: replies.finish(rt, channel.replies.end()),
     }
 }

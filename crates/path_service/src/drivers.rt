@@ -10,12 +10,12 @@ ghost use Rattle.path_service.specs.Steps.{HasReceived, HasStaged, HasStarted, H
 ghost use Rattle.path_service.specs.Closings.{IsClosedBy};
 ghost use Rattle.path_service.specs.inner.Opening.{IsNew};
 ghost use Rattle.path_service.specs.inner.Zips.{AllPaired};
-ghost use Rattle.path_service.specs.inner.Ports.{ids_from, HasRoomOn, SendsParts};
+ghost use Rattle.path_service.specs.inner.Channels.{ids_from, HasRoomOn, SendsParts};
 
 use crate::callers::EndedCallers;
+use crate::channels::{Channel, send_all};
 use crate::closing::{Closed, close_all};
-use crate::intakes::{Intake, next_turn};
-use crate::ports::{Port, send_all};
+use crate::intakes::{TurnIntake, next_turn};
 use crate::runs::{AnsweredRun, Beside, Incoming, RunAndNext, both, run_beside, version_for_next};
 use grid_versions::{MapSpec, Version};
 use io_edges::Gate;
@@ -47,8 +47,8 @@ pub struct Driver {
     alloc: Global,
     map: MapSpec,
     version: Version,
-    ports: Vec<Port>,
-    hands: Vec<Posts>,
+    channels: Vec<Channel>,
+    all_pending: Vec<Posts>,
     staged: Option<ReadyTurn>,
     running: Option<AnsweredRun>,
     // A turn that was started, for whose answers there was no memory.
@@ -76,22 +76,22 @@ impl Driver {
         alloc: Global,
         map: MapSpec,
         version: Version,
-        ports: Vec<Port>,
-        hands: Vec<Posts>,
+        channels: Vec<Channel>,
+        all_pending: Vec<Posts>,
     ) -> Driver
         requires map { version.map ≡ map }
         requires standing { version.standing ≡ bare }
-        requires count { length ports.items ≡ map.callers }
-        requires ports { All IsNew ports.items }
-        requires hands { hands.items ≡ replicate map.callers [] }
-        ensures { result ≡ started_on map (ids_from 0 ports.items) }
+        requires count { length channels.items ≡ map.callers }
+        requires channels { All IsNew channels.items }
+        requires all_pending { all_pending.items ≡ replicate map.callers [] }
+        ensures { result ≡ started_on map (ids_from 0 channels.items) }
     {
         Driver {
             alloc,
             map,
             version,
-            ports,
-            hands,
+            channels,
+            all_pending,
             staged: None,
             running: None,
             broken: None,
@@ -143,8 +143,8 @@ impl Driver {
         requires { HasPostLane self.old.callers caller notice.lane }
         ensures { self.new ≡ told_of self.old caller notice.count }
     {
-        let port = &mut self.ports[usize::from(caller)];
-        port.posts.hear(rt, notice);
+        let channel = &mut self.channels[usize::from(caller)];
+        channel.posts.hear(rt, notice);
     }
 
     /// A notice of how many replies were sent to a caller so far. That caller may hear it.
@@ -154,17 +154,17 @@ impl Driver {
         ensures lane { HasReplyLane self.old.callers caller result.lane }
         ensures count { result.count ≡ length (list_of self.old.sent caller) }
     {
-        let port = &mut self.ports[usize::from(caller)];
-        port.replies.notice(rt)
+        let channel = &mut self.channels[usize::from(caller)];
+        channel.replies.notice(rt)
     }
 
-    /// Takes posts off the lanes and stages them, behind those in hand, as the next turn, which it makes ready on the map
+    /// Takes posts off the lanes and stages them, behind the pending ones, as the next turn, which it makes ready on the map
     /// after the turns before it. It answers the number of posts that are staged: 0 leaves nothing staged. It may wait for
     /// callers.
     ///
     /// Each lane is looked at until it is found empty, or the turn has 2^31 posts. So each post is staged of which the
     /// driver was told, by notices heard until then. Where there is no memory nothing is staged, the posts that were taken
-    /// are in hand, and the next stage begins with them.
+    /// are pending, and the next stage begins with them.
     pub fn stage(&mut self, rt: &impl Wait) -> Result<u64, NoMemory>
         requires none { self.old.machine.staged ≡ None }
         requires sound { self.old.failed ≡ false }
@@ -172,18 +172,18 @@ impl Driver {
         ensures refused { OnErr result (HasReceived self.old.machine self.new.machine) }
         ensures rest { self.new ≡ with_machine self.old self.new.machine }
     {
-        let ports = mem::replace(&mut self.ports, Vec::new(self.alloc));
-        let hands = mem::replace(&mut self.hands, Vec::new(self.alloc));
+        let channels = mem::replace(&mut self.channels, Vec::new(self.alloc));
+        let all_pending = mem::replace(&mut self.all_pending, Vec::new(self.alloc));
         let base = version_for_next(&self.version, &self.running);
-        let intake = next_turn(rt, self.alloc, base, ports, hands);
-        let Intake {
-            ports,
-            hands,
+        let intake = next_turn(rt, self.alloc, base, channels, all_pending);
+        let TurnIntake {
+            channels,
+            all_pending,
             staged,
             count,
         } = intake;
-        self.ports = ports;
-        self.hands = hands;
+        self.channels = channels;
+        self.all_pending = all_pending;
         self.staged = staged;
         count
     }
@@ -212,18 +212,22 @@ impl Driver {
         let Some(ready) = self.staged.take() else {
             unreachable!();
         };
-        let ports = mem::replace(&mut self.ports, Vec::new(self.alloc));
-        let hands = mem::replace(&mut self.hands, Vec::new(self.alloc));
-        let incoming = Incoming { ports, hands, gate };
+        let channels = mem::replace(&mut self.channels, Vec::new(self.alloc));
+        let all_pending = mem::replace(&mut self.all_pending, Vec::new(self.alloc));
+        let incoming = Incoming {
+            channels,
+            all_pending,
+            gate,
+        };
         let Beside { answers, intake } = run_beside(rt, self.alloc, answerer, &ready, incoming);
-        let Intake {
-            ports,
-            hands,
+        let TurnIntake {
+            channels,
+            all_pending,
             staged,
             count,
         } = intake;
-        self.ports = ports;
-        self.hands = hands;
+        self.channels = channels;
+        self.all_pending = all_pending;
         self.staged = staged;
         let Ok(done) = both(answers, count) else {
             let (posts, _version) = ready.into_parts();
@@ -250,7 +254,7 @@ impl Driver {
         let sent = send_turn(
             rt,
             self.alloc,
-            &mut self.ports,
+            &mut self.channels,
             &mut self.journal,
             &mut self.replies,
             &run,
@@ -287,17 +291,17 @@ impl Driver {
         ensures driver { IfErr result (λ refused. refused.1 ≡ self) }
         ensures ended { IfErr result (λ refused. refused.2 ≡ ended) }
     {
-        let Ok(room) = Vec::with_capacity(self.alloc, self.ports.len()) else {
+        let Ok(room) = Vec::with_capacity(self.alloc, self.channels.len()) else {
             return Err((NoMemory, self, ended));
         };
         let Driver {
             map,
-            ports,
+            channels,
             journal,
             replies,
             ..
         } = self;
-        let callers = close_all(rt, room, ports, ended);
+        let callers = close_all(rt, room, channels, ended);
         Ok(Closed::new(
             map,
             Sequence::from(journal),
@@ -311,15 +315,15 @@ impl Driver {
 fn send_turn(
     rt: &impl Wait,
     alloc: Global,
-    ports: &mut Vec<Port>,
+    channels: &mut Vec<Channel>,
     journal: &mut Vec<TurnPosts>,
     all: &mut Vec<TurnReplies>,
     run: &AnsweredRun,
 ) -> Result<(), NoMemory>
-    requires wide { length run.now.replies.replies ≡ length ports.old.items }
-    requires room { AllPaired HasRoomOn ports.old.items run.now.replies.replies }
+    requires wide { length run.now.replies.replies ≡ length channels.old.items }
+    requires room { AllPaired HasRoomOn channels.old.items run.now.replies.replies }
     ensures sends { (parts : List (List AReply))
-        × SendsParts ports.old.items ports.new.items run.now.replies.replies result parts }
+        × SendsParts channels.old.items channels.new.items run.now.replies.replies result parts }
     ensures journal { journal.new.items ≡ journal.old.items }
     ensures all { all.new.items ≡ all.old.items }
     ensures turn_room { OnOk result (vec_len journal.new < vec_capacity journal.new) }
@@ -327,5 +331,5 @@ fn send_turn(
 {
     journal.reserve(1)?;
     all.reserve(1)?;
-    send_all(rt, alloc, ports, run.replies.replies.as_slice())
+    send_all(rt, alloc, channels, run.replies.replies.as_slice())
 }

@@ -14,12 +14,12 @@
 #![tactic(auto)]
 
 mod callers;
+mod channels;
 mod closing;
 mod drivers;
 mod events;
 mod intakes;
 mod laws;
-mod ports;
 mod runs;
 mod services;
 

@@ -5,12 +5,12 @@ ghost use Rattle.posts.specs.Posts.{jobs, post_count};
 ghost use Rattle.grid_versions.specs.Versions.{map_state};
 ghost use Rattle.turn_core.specs.Solving.{AreAnswersTo};
 ghost use Rattle.turn_core.specs.ReadyTurns.{after_edits_of};
-ghost use Rattle.path_service.specs.inner.Ports.{IsInRoom};
+ghost use Rattle.path_service.specs.inner.Channels.{IsInRoom};
 ghost use Rattle.path_service.specs.inner.Intakes.{HasTakenIn};
 ghost use Rattle.path_service.specs.inner.Running.{version_for_next, HoldsRun};
 
-use crate::intakes::{Intake, next_turn};
-use crate::ports::Port;
+use crate::channels::Channel;
+use crate::intakes::{TurnIntake, next_turn};
 use grid_versions::Version;
 use io_edges::Gate;
 use nav_types::NoMemory;
@@ -36,7 +36,7 @@ pub(crate) struct AnsweredRun {
 #[derive(Drop)]
 pub(crate) struct Beside {
     pub answers: Result<Answers, NoMemory>,
-    pub intake: Intake,
+    pub intake: TurnIntake,
 }
 
 /// The answers to a turn, and the number of posts in the next.
@@ -80,11 +80,11 @@ pub(crate) fn version_for_next<'a>(
     }
 }
 
-/// What is taken in beside a turn that runs: the ports of the callers, what is in hand, and the gate that is told of it.
+/// What is taken in beside a turn that runs: the channels of the callers, what is pending, and the gate that is told of it.
 #[derive(Drop)]
 pub(crate) struct Incoming<'a, G> {
-    pub ports: Vec<Port>,
-    pub hands: Vec<Posts>,
+    pub channels: Vec<Channel>,
+    pub all_pending: Vec<Posts>,
     pub gate: &'a G,
 }
 
@@ -98,18 +98,18 @@ pub(crate) fn run_beside<A: Answerer + Send, G: Gate, R: Threads + Wait + Sync>(
     incoming: Incoming<'_, G>,
 ) -> Beside
     requires takes { A.takes answerer.old (length (jobs ready.now.turn)) }
-    requires wide { length incoming.hands.items ≡ length incoming.ports.items }
-    requires room { All IsInRoom incoming.ports.items }
-    requires few { post_count incoming.hands.items ≤ MOST }
+    requires wide { length incoming.all_pending.items ≡ length incoming.channels.items }
+    requires room { All IsInRoom incoming.channels.items }
+    requires few { post_count incoming.all_pending.items ≤ MOST }
     ensures answers { IfOk result.answers
         (AreAnswersTo ready.now.map (after_edits_of ready.now) (jobs ready.now.turn)) }
-    ensures intake { HasTakenIn ready.now.map (after_edits_of ready.now) incoming.entry.ports.items
-        incoming.entry.hands.items result.intake }
+    ensures intake { HasTakenIn ready.now.map (after_edits_of ready.now) incoming.entry.channels.items
+        incoming.entry.all_pending.items result.intake }
     ensures takes { (count : ℕ) → A.takes answerer.old count → A.takes answerer.new count }
 {
     let Incoming {
-        mut ports,
-        mut hands,
+        mut channels,
+        mut all_pending,
         gate,
     } = incoming;
     let version = ready.version();
@@ -125,15 +125,15 @@ pub(crate) fn run_beside<A: Answerer + Send, G: Gate, R: Threads + Wait + Sync>(
             let noted = answerer.noted_answers(alloc, version, asked, Report::Answers)?;
             Ok(noted.answers)
         },
-        &mut || -> Intake
-            requires { (length hands.items ≡ length ports.items) × All IsInRoom ports.items
-                × (post_count hands.items ≤ MOST) }
-            ensures { HasTakenIn version.entry.now.map version.entry.now.standing ports.entry.items
-                hands.entry.items result }
+        &mut || -> TurnIntake
+            requires { (length all_pending.items ≡ length channels.items) × All IsInRoom channels.items
+                × (post_count all_pending.items ≤ MOST) }
+            ensures { HasTakenIn version.entry.now.map version.entry.now.standing channels.entry.items
+                all_pending.entry.items result }
         {
-            let ports = mem::replace(&mut ports, Vec::new(alloc));
-            let hands = mem::replace(&mut hands, Vec::new(alloc));
-            take_in(rt, alloc, gate, version, ports, hands)
+            let channels = mem::replace(&mut channels, Vec::new(alloc));
+            let all_pending = mem::replace(&mut all_pending, Vec::new(alloc));
+            take_in(rt, alloc, gate, version, channels, all_pending)
         },
     );
     Beside { answers, intake }
@@ -145,15 +145,15 @@ fn take_in<G: Gate, R: Wait>(
     alloc: Global,
     gate: &G,
     version: &Version,
-    ports: Vec<Port>,
-    hands: Vec<Posts>,
-) -> Intake
-    requires wide { length hands.items ≡ length ports.items }
-    requires room { All IsInRoom ports.items }
-    requires few { post_count hands.items ≤ MOST }
-    ensures { HasTakenIn version.now.map version.now.standing ports.items hands.items result }
+    channels: Vec<Channel>,
+    all_pending: Vec<Posts>,
+) -> TurnIntake
+    requires wide { length all_pending.items ≡ length channels.items }
+    requires room { All IsInRoom channels.items }
+    requires few { post_count all_pending.items ≤ MOST }
+    ensures { HasTakenIn version.now.map version.now.standing channels.items all_pending.items result }
 {
-    let intake = next_turn(rt, alloc, version, ports, hands);
+    let intake = next_turn(rt, alloc, version, channels, all_pending);
     if let Ok(count) = &intake.count {
         gate.staged(*count);
     }

@@ -12,7 +12,7 @@ use Rattle.posts.specs.declared.notes.Report.{Report}
 use Rattle.turn_core.specs.Words.{Standing}
 use Rattle.path_workers.specs.declared.placing.Answered.{Answered}
 use Rattle.path_workers.specs.declared.drawing.Worked.{Worked}
-use Rattle.path_workers.specs.declared.rooms.Rooms.{Rooms}
+use Rattle.path_workers.specs.declared.pool_cache.PoolCache.{PoolCache}
 use Rattle.path_workers.specs.inner.Ranking.{jobs_at}
 use Rattle.path_workers.proofs.Ordering.{Lists-through}
 use Rattle.path_workers.specs.inner.Working.{job_numbers, AnswersItsJob, AnswerTheirJobs, HasOneMore, HasWorked}
@@ -61,19 +61,19 @@ both_answered map standing report jobs (Ok front) (Ok back) (Ok whole) are p q =
 
 -- what the workers of two halves of a seat hand back together
 pub both_worked : (map : Map) (standing : Standing) (report : Report) (jobs : List Request) (order : List ℕ) (board : Board) (seat one other joined : SeatState)
-    (first second : Worked) (all : Result (List Answered) NoMemory) (rooms : Rooms) → one ≡ record seat { credit = seat.credit - seat.credit / 2 } → other ≡ record seat { credit = seat.credit / 2; drawn = [] }
+    (first second : Worked) (all : Result (List Answered) NoMemory) (pool_cache : PoolCache) → one ≡ record seat { share = seat.share - seat.share / 2 } → other ≡ record seat { share = seat.share / 2; drawn = [] }
     → HasWorked map standing report jobs order one first → HasWorked map standing report jobs order other second → seat.board ≡ board
-    → joined.board ≡ board → joined.credit ≡ first.seat.credit + second.seat.credit → joined.drawn ≡ first.seat.drawn ++ second.seat.drawn
+    → joined.board ≡ board → joined.share ≡ first.seat.share + second.seat.share → joined.drawn ≡ first.seat.drawn ++ second.seat.drawn
     → joined.ended ≡ (first.seat.ended || second.seat.ended) → AreBoth first.answered second.answered all
-    → HasWorked map standing report jobs order seat (record { seat = joined; answered = all; rooms = rooms })
-both_worked map standing report jobs order board seat one other joined first second all rooms first_half second_half p q own home credit drawn ended are =
-    let more : one.credit ≡ seat.credit - seat.credit / 2 = ap (λ (s : SeatState). s.credit) first_half in
-    let less : other.credit ≡ seat.credit / 2 = ap (λ (s : SeatState). s.credit) second_half in
-    let here : first.seat.credit ≡ one.credit = p.credit in
-    let there : second.seat.credit ≡ other.credit = q.credit in
+    → HasWorked map standing report jobs order seat (record { seat = joined; answered = all; pool_cache = pool_cache })
+both_worked map standing report jobs order board seat one other joined first second all pool_cache first_half second_half p q own home share drawn ended are =
+    let more : one.share ≡ seat.share - seat.share / 2 = ap (λ (s : SeatState). s.share) first_half in
+    let less : other.share ≡ seat.share / 2 = ap (λ (s : SeatState). s.share) second_half in
+    let here : first.seat.share ≡ one.share = p.share in
+    let there : second.seat.share ≡ other.share = q.share in
     record {
       board = home ∙ sym own;
-      credit = omega (arith, credit, here, there, more, less);
+      share = omega (arith, share, here, there, more, less);
       ended = both_ended first.answered second.answered all first.seat.ended second.seat.ended joined.ended are p.ended ended;
       numbers = both_numbered order first.answered second.answered all first.seat.drawn second.seat.drawn joined.drawn are p.numbers q.numbers drawn;
       answers = both_answered map standing report jobs first.answered second.answered all are p.answers q.answers;

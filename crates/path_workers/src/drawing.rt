@@ -4,7 +4,7 @@ ghost use denote.Param.Send.{IsSync};
 ghost use Rattle.path_workers.specs.inner.Working.{HasOneMore, HasWorked};
 
 use crate::placing::Answered;
-use crate::rooms::Rooms;
+use crate::pool_cache::PoolCache;
 use claim_board::{Claims, Drawn, Seat};
 use grid_versions::Version;
 use io_edges::Gate;
@@ -25,16 +25,21 @@ pub(crate) struct Turn<'a, G> {
     pub report: Report,
 }
 
-/// What workers hand back: their seat, their answers with the jobs' numbers, and their rooms.
+/// What workers hand back: their seat, their answers with the jobs' numbers, and their pools.
 #[derive(Drop)]
 pub(crate) struct Worked {
     pub seat: Seat,
     pub answered: Result<Sequence<Answered>, NoMemory>,
-    pub rooms: Rooms,
+    pub pool_cache: PoolCache,
 }
 
 /// Draws jobs and solves each, until none is left. The gate is passed once before each job.
-fn draw_all<G: Gate>(alloc: Global, turn: &Turn<'_, G>, seat: Seat, mut rooms: Rooms) -> Worked
+fn draw_all<G: Gate>(
+    alloc: Global,
+    turn: &Turn<'_, G>,
+    seat: Seat,
+    mut pool_cache: PoolCache,
+) -> Worked
     requires jobs { turn.now.claims.now.jobs ≡ length turn.now.order.now }
     requires order { All (λ job. job < length turn.now.jobs.now) turn.now.order.now }
     requires own { seat.board ≡ turn.now.claims.now }
@@ -43,26 +48,26 @@ fn draw_all<G: Gate>(alloc: Global, turn: &Turn<'_, G>, seat: Seat, mut rooms: R
     ensures { HasWorked turn.now.version.now.map turn.now.version.now.standing turn.now.report turn.now.jobs.now
         turn.now.order.now seat result }
 {
-    match rooms.take(alloc) {
+    match pool_cache.take(alloc) {
         Ok(pool) => {
             let solver = Solver::in_pool(turn.version, turn.report, pool);
-            draw_with(alloc, turn, seat, solver, rooms)
+            draw_with(alloc, turn, seat, solver, pool_cache)
         }
         Err(NoMemory) => Worked {
             seat,
             answered: Err(NoMemory),
-            rooms,
+            pool_cache,
         },
     }
 }
 
-/// Draws jobs until none is left, and has the solver answer each. The pool of the solver is kept in the rooms.
+/// Draws jobs until none is left, and has the solver answer each. The pool of the solver is kept in the cache.
 fn draw_with<G: Gate>(
     alloc: Global,
     turn: &Turn<'_, G>,
     mut seat: Seat,
     mut solver: Solver<'_>,
-    mut rooms: Rooms,
+    mut pool_cache: PoolCache,
 ) -> Worked
     requires jobs { turn.now.claims.now.jobs ≡ length turn.now.order.now }
     requires order { All (λ job. job < length turn.now.jobs.now) turn.now.order.now }
@@ -83,16 +88,16 @@ fn draw_with<G: Gate>(
                     return Worked {
                         seat,
                         answered: Err(NoMemory),
-                        rooms,
+                        pool_cache,
                     };
                 };
             }
             Drawn::Ended(next) => {
-                rooms.put(solver.into_pool());
+                pool_cache.put(solver.into_pool());
                 return Worked {
                     seat: next,
                     answered: Ok(answered),
-                    rooms,
+                    pool_cache,
                 };
             }
         }
@@ -118,14 +123,14 @@ fn solve_job<G: Gate>(
     Ok(())
 }
 
-/// Draws jobs by so many workers, each with its part of the seat's credit, and each but one on a thread of its own.
+/// Draws jobs by so many workers, each with its part of the seat's share, and each but one on a thread of its own.
 pub(crate) fn draw_by<R: Threads + Sync, G: Gate + Sync>(
     rt: &R,
     alloc: Global,
     turn: &Turn<'_, G>,
     seat: Seat,
     workers: u64,
-    mut rooms: Rooms,
+    mut pool_cache: PoolCache,
 ) -> Worked
     requires jobs { turn.now.claims.now.jobs ≡ length turn.now.order.now }
     requires order { All (λ job. job < length turn.now.jobs.now) turn.now.order.now }
@@ -133,12 +138,12 @@ pub(crate) fn draw_by<R: Threads + Sync, G: Gate + Sync>(
     requires list { seat.drawn ≡ [] }
     requires live { seat.ended ≡ false }
     requires some { 1 ≤ workers }
-    requires credit { workers ≤ seat.credit }
+    requires share { workers ≤ seat.share }
     ensures { HasWorked turn.now.version.now.map turn.now.version.now.standing turn.now.report turn.now.jobs.now
         turn.now.order.now seat result }
 {
     if workers == 1 {
-        return draw_all(alloc, turn, seat, rooms);
+        return draw_all(alloc, turn, seat, pool_cache);
     }
     let Turn {
         version,
@@ -150,13 +155,13 @@ pub(crate) fn draw_by<R: Threads + Sync, G: Gate + Sync>(
     } = *turn;
     let half = workers / 2;
     let (one, other) = claims.split(seat);
-    let others = rooms.split(alloc, half as usize);
+    let others = pool_cache.split(alloc, half as usize);
     let (first, second) = join(
         rt,
         || -> Worked
             requires { IsSync R.row × (claims.now.jobs ≡ length order.now)
                 × All (λ job. job < length jobs.now) order.now × (one.board ≡ claims.now)
-                × (one.drawn ≡ []) × (one.ended ≡ false) × (1 ≤ workers - half) × (workers - half ≤ one.credit) }
+                × (one.drawn ≡ []) × (one.ended ≡ false) × (1 ≤ workers - half) × (workers - half ≤ one.share) }
             ensures { HasWorked version.entry.now.map version.entry.now.standing report jobs.entry.now
                 order.entry.now one result }
         {
@@ -168,12 +173,12 @@ pub(crate) fn draw_by<R: Threads + Sync, G: Gate + Sync>(
                 gate,
                 report,
             };
-            draw_by(rt, alloc, &turn, one, workers - half, rooms)
+            draw_by(rt, alloc, &turn, one, workers - half, pool_cache)
         },
         || -> Worked
             requires { IsSync R.row × (claims.now.jobs ≡ length order.now)
                 × All (λ job. job < length jobs.now) order.now × (other.board ≡ claims.now)
-                × (other.drawn ≡ []) × (other.ended ≡ false) × (1 ≤ half) × (half ≤ other.credit) }
+                × (other.drawn ≡ []) × (other.ended ≡ false) × (1 ≤ half) × (half ≤ other.share) }
             ensures { HasWorked version.entry.now.map version.entry.now.standing report jobs.entry.now
                 order.entry.now other result }
         {
@@ -188,12 +193,12 @@ pub(crate) fn draw_by<R: Threads + Sync, G: Gate + Sync>(
             draw_by(rt, alloc, &turn, other, half, others)
         },
     );
-    let mut rooms = first.rooms;
-    rooms.take_in(second.rooms);
+    let mut pool_cache = first.pool_cache;
+    pool_cache.take_in(second.pool_cache);
     Worked {
         seat: claims.join(first.seat, second.seat),
         answered: both(first.answered, second.answered),
-        rooms,
+        pool_cache,
     }
 }
 

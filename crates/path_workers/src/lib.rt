@@ -12,11 +12,11 @@
 
 mod drawing;
 mod placing;
+mod pool_cache;
 mod ranking;
-mod rooms;
 mod sharing;
 mod turns;
 
-pub use rooms::Rooms;
+pub use pool_cache::PoolCache;
 pub use sharing::{LEAST_WORK, WORK_OF_A_WORKER, worth_workers};
 pub use turns::Workers;

@@ -11,7 +11,7 @@ use turn_core::{Report, Request};
 
 /// A job by its number, and its work.
 #[derive(Clone, Copy, Debug)]
-pub(crate) struct Ranked {
+pub(crate) struct RankedJob {
     pub job: u32,
     pub work: u64,
 }
@@ -39,7 +39,7 @@ fn all_ranked(
     version: &Version,
     jobs: &[Request],
     report: Report,
-) -> Result<Vec<Ranked>, NoMemory>
+) -> Result<Vec<RankedJob>, NoMemory>
     requires { length jobs.now < 2 ^ 32 }
     ensures all { IfOk result (λ ranked. Lists (λ job. job < length jobs.now) (map ranked_job ranked.items)) }
     ensures count { IfOk result (λ ranked. length ranked.items ≡ length jobs.now) }
@@ -47,7 +47,7 @@ fn all_ranked(
     let mut ranked = Vec::with_capacity(alloc, jobs.len())?;
     let mut job: u32 = 0;
     for request in jobs {
-        ranked.push_reserved(Ranked {
+        ranked.push_reserved(RankedJob {
             job,
             work: work_of(version, request, report),
         });
@@ -57,7 +57,7 @@ fn all_ranked(
 }
 
 /// The numbers of ranked jobs, in their order.
-fn numbers_of(alloc: Global, ranked: &[Ranked]) -> Result<Vec<u32>, NoMemory>
+fn numbers_of(alloc: Global, ranked: &[RankedJob]) -> Result<Vec<u32>, NoMemory>
     ensures { IfOk result (λ order. order.items ≡ map ranked_job ranked.now) }
 {
     let mut order = Vec::with_capacity(alloc, ranked.len())?;

@@ -6,8 +6,8 @@ ghost use Rattle.path_workers.specs.Sharing.{worth_workers};
 
 use crate::drawing::{Turn, draw_by};
 use crate::placing::{blank_places, in_order};
+use crate::pool_cache::PoolCache;
 use crate::ranking::longest_first;
-use crate::rooms::Rooms;
 use crate::sharing::worth_workers;
 use claim_board::Claims;
 use grid_versions::Version;
@@ -49,12 +49,15 @@ impl<'a, G: Gate + Sync> Workers<'a, G> {
 
     /// The answers to the jobs on a version, each in the place of its job (`AreAnswersTo`), with what the report tells of
     /// each (`AreNotes`), whatever the gate, the number of workers, the order in which they come to their jobs, and the
-    /// rooms in which they search, which have theirs at the end. There are fewer than 2^32 jobs. It refuses for want of
+    /// pools in which they search, which have theirs at the end. There are fewer than 2^32 jobs. It refuses for want of
     /// memory alone.
     ///
     /// The workers draw the jobs one by one from a claim board, and each passes the gate once before it solves a job. There
     /// are no more threads than jobs, and none for a single job. Where no thread can be started, the caller's own does its
     /// work.
+    ///
+    /// Where memory was short for several workers, the caller's thread solves all jobs once more by itself: by then the
+    /// others have ended, and what they held is free. So many workers refuse hardly more than one does.
     pub fn run_noted<R: Threads + Sync>(
         &self,
         rt: &R,
@@ -62,7 +65,35 @@ impl<'a, G: Gate + Sync> Workers<'a, G> {
         version: &Version,
         jobs: &Jobs,
         report: Report,
-        rooms: &mut Rooms,
+        pool_cache: &mut PoolCache,
+    ) -> Result<NotedAnswers, NoMemory>
+        requires { length jobs.now < 2 ^ 32 }
+        ensures answers { IfOk result (λ noted. AreAnswersTo version.now.map version.now.standing jobs.now noted.answers) }
+        ensures notes { IfOk result (λ noted. AreNotes version.now.map version.now.standing report jobs.now noted.notes) }
+    {
+        match self.run_once(rt, alloc, version, jobs, report, pool_cache) {
+            Ok(noted) => Ok(noted),
+            Err(NoMemory) if self.count == 1 || jobs.len() < 2 => Err(NoMemory),
+            Err(NoMemory) => {
+                *pool_cache = PoolCache::new(alloc);
+                let alone = Workers {
+                    count: 1,
+                    gate: self.gate,
+                };
+                alone.run_once(rt, alloc, version, jobs, report, pool_cache)
+            }
+        }
+    }
+
+    /// The answers that [`Workers::run_noted`] gives, where memory is not short for any worker.
+    fn run_once<R: Threads + Sync>(
+        &self,
+        rt: &R,
+        alloc: Global,
+        version: &Version,
+        jobs: &Jobs,
+        report: Report,
+        pool_cache: &mut PoolCache,
     ) -> Result<NotedAnswers, NoMemory>
         requires { length jobs.now < 2 ^ 32 }
         ensures answers { IfOk result (λ noted. AreAnswersTo version.now.map version.now.standing jobs.now noted.answers) }
@@ -82,9 +113,9 @@ impl<'a, G: Gate + Sync> Workers<'a, G> {
             report,
         };
         let workers = u64::from(self.count).min(count as u64).max(1);
-        let own = rooms.take_all(alloc);
+        let own = pool_cache.take_all(alloc);
         let worked = draw_by(rt, alloc, &turn, seat, workers, own);
-        *rooms = worked.rooms;
+        *pool_cache = worked.pool_cache;
         let answered = worked.answered?;
         // Of the jobs that were drawn, each was answered: so all of them have their answer, and none has two.
         let _drawings = claims.close(worked.seat);
@@ -102,24 +133,24 @@ impl<'a, G: Gate + Sync> Workers<'a, G> {
         }
     }
 
-    /// The answers that [`Workers::run_noted`] gives, by as many of the workers as the jobs are worth, with the rooms in
+    /// The answers that [`Workers::run_noted`] gives, by as many of the workers as the jobs are worth, with the pools in
     /// which they searched.
     pub fn answer_in<R: Threads + Sync>(
         &self,
         rt: &R,
         alloc: Global,
-        rooms: Rooms,
+        pool_cache: PoolCache,
         version: &Version,
         jobs: &Jobs,
         report: Report,
-    ) -> (Rooms, Result<NotedAnswers, NoMemory>)
+    ) -> (PoolCache, Result<NotedAnswers, NoMemory>)
         requires { length jobs.now < 2 ^ 32 }
         ensures answers { IfOk result.1 (λ noted. AreAnswersTo version.now.map version.now.standing jobs.now noted.answers) }
         ensures notes { IfOk result.1 (λ noted. AreNotes version.now.map version.now.standing report jobs.now noted.notes) }
     {
-        let mut rooms = rooms;
+        let mut pool_cache = pool_cache;
         let few = self.sized_for(version, jobs, report);
-        let noted = few.run_noted(rt, alloc, version, jobs, report, &mut rooms);
-        (rooms, noted)
+        let noted = few.run_noted(rt, alloc, version, jobs, report, &mut pool_cache);
+        (pool_cache, noted)
     }
 }

@@ -50,8 +50,8 @@ abbrev pub make_by : List ℕ → List ℕ → ℕ → Option Command
 make_by word number workers =
     if bytes_eq word (codes "make") then option_map (λ seed. Make seed workers) (seed_of number) else None
 
--- The command of the words, where they are in the grammar: `replay`, `profile`, `flow`, `smooth`, `serve`, or `make` with a
--- number, by 4 workers, or by the number behind `--workers`.
+-- The command of the words, where they are in the grammar: one that answers a script, `serve`, or `make` with a number, by 4
+-- workers, or by the number behind `--workers`.
 abbrev pub command_of : List (List ℕ) → Option Command
 command_of (word ∷ []) = command_by word 4
 command_of (word ∷ (number ∷ [])) = make_by word number 4

@@ -1,3 +1,4 @@
+//! The words of the command line.
 ghost use Rattle.std.specs.Prelude.{◌≡◌, ◌<◌, ◌≤◌, ◌^◌, ◌&&◌, IfOk, IfSome};
 ghost use Rattle.std.specs.Result.{result_ok};
 ghost use Rattle.std.specs.Str.Parse.{digits_value};
@@ -27,7 +28,7 @@ pub enum Command {
 #[derive(Clone, Copy, Debug, PartialEq, Eq)]
 pub struct NotWords;
 
-/// The command of the words: `replay`, `profile`, `flow`, `smooth`, `serve`, or `make SEED`, for 4 workers, or with
+/// The command of the words: one that answers a script (`report_by`), `serve`, or `make SEED`, for 4 workers, or with
 /// `--workers N` behind it for N workers. N is 1 to 64 and SEED is below 2^64, in decimal without a sign or a leading zero. Refused exactly
 /// where the words are none of these.
 pub fn read_words(words: &Words) -> Result<Command, NotWords>
@@ -78,7 +79,15 @@ pub(crate) fn is_script_word(word: &[u8]) -> bool
     word == b"serve".as_slice() || report_by(word).is_some()
 }
 
-/// What a word asks to be told beside the answers to a script.
+/// What a word asks to be told beside the answers to a script. These are the words, with their numbers in the library;
+/// `tools/reports.py` writes this table wherever else they are listed.
+///
+/// | word | number | what it writes |
+/// |---|---|---|
+/// | `replay` | 0 | the answers |
+/// | `profile` | 1 | and for each path how many states its search expands |
+/// | `flow` | 2 | and for each path four numbers of the flow field to its goal |
+/// | `smooth` | 3 | and for each path its smoothed waypoints |
 fn report_by(word: &[u8]) -> Option<Report>
     ensures { result ≡ report_by word.now }
 {

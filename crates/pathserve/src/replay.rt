@@ -17,21 +17,21 @@ use crate::teams::Team;
 use crate::writing::{status_of, write_all};
 use grid_versions::Version;
 use io_edges::{Gate, Sink, Source, WriteRefusal};
-use match_play::{Ground, play_item};
+use match_play::{MatchProgress, play_item};
 use nav_types::{Bytes, NoMemory};
-use path_workers::{Rooms, Workers};
+use path_workers::{PoolCache, Workers};
 use script_text::{ScriptItem, ScriptReader};
 use std::alloc::Global;
 use std::thread::Threads;
 use turn_core::{Answerer, Jobs, NotedAnswers, Report};
 
-/// Who answers the turns of a script, what is told beside the answers, and the rooms that are kept from turn to turn.
+/// Who answers the turns of a script, what is told beside the answers, and the pools that are kept from turn to turn.
 #[derive(Drop)]
 pub struct Reporter<'a, R, G> {
     pub rt: &'a R,
     pub workers: Workers<'a, G>,
     pub report: Report,
-    pub rooms: Rooms,
+    pub pool_cache: PoolCache,
 }
 
 /// Answers a script turn by turn: the text of a turn, with what the report tells beside the answers, is written as one
@@ -58,18 +58,18 @@ pub fn run_replay<R: Threads + Sync, S: Source, K: Sink, G: Gate + Sync>(
         rt,
         workers,
         report,
-        rooms,
+        pool_cache,
     } = reporter;
     let mut team = Team {
-        rooms,
-        run: move |alloc: Global, rooms: Rooms, version: &Version, jobs: &Jobs, report: Report| -> (
-            Rooms,
+        pool_cache,
+        run: move |alloc: Global, pool_cache: PoolCache, version: &Version, jobs: &Jobs, report: Report| -> (
+            PoolCache,
             Result<NotedAnswers, NoMemory>,
         )
             requires { IsSync R.row × IsSync G.row × (length jobs.now < 2 ^ 32) }
             ensures { IfOk result.1 (λ noted. AreAnswersTo version.now.map version.now.standing jobs.now noted.answers
                 × AreNotes version.now.map version.now.standing report jobs.now noted.notes) }
-        { workers.answer_in(rt, alloc, rooms, version, jobs, report) },
+        { workers.answer_in(rt, alloc, pool_cache, version, jobs, report) },
     };
     replay_by(alloc, &mut team, report, source, sink, why)
 }
@@ -92,10 +92,10 @@ fn replay_by<A: Answerer, S: Source, K: Sink>(
     let Ok(mut reader) = ScriptReader::new(alloc) else {
         return Status::NoMemory;
     };
-    let mut ground = Ground::Nothing;
+    let mut progress = MatchProgress::Nothing;
     'items: loop {
         match reader.next_item(alloc, source) {
-            Ok(Some(item)) => match write_item(alloc, answerer, report, &mut ground, item, sink) {
+            Ok(Some(item)) => match write_item(alloc, answerer, report, &mut progress, item, sink) {
                 Ok(()) => {}
                 Err(refusal) => return status_of(refusal),
             },
@@ -110,21 +110,21 @@ fn write_item<A: Answerer, K: Sink>(
     alloc: Global,
     answerer: &mut A,
     report: Report,
-    ground: &mut Ground,
+    progress: &mut MatchProgress,
     item: ScriptItem,
     sink: &mut K,
 ) -> Result<(), WriteRefusal>
-    requires fits { FitsItem ground.old item }
+    requires fits { FitsItem progress.old item }
     requires takes { TakesItem (A.takes answerer.old) item }
-    ensures written { WritesSome (λ text. Says report (said_of ground.old) (item_of item) text (said_of ground.new))
+    ensures written { WritesSome (λ text. Says report (said_of progress.old) (item_of item) text (said_of progress.new))
         (K.kept sink.old) (K.kept sink.new) result }
-    ensures ground { OnOk result (Becomes ground.old item ground.new) }
+    ensures progress { OnOk result (Becomes progress.old item progress.new) }
     ensures later { K.faults sink.old ≤ K.faults sink.new }
     ensures fault { IsErrOf result WriteRefusal.Failed → Rose (K.faults sink.old) (K.faults sink.new) }
     ensures takes { (count : ℕ) → A.takes answerer.old count → A.takes answerer.new count }
 {
     let mut text = Bytes::new(alloc);
-    match play_item(alloc, answerer, report, ground, item, &mut text) {
+    match play_item(alloc, answerer, report, progress, item, &mut text) {
         Ok(()) => write_all(sink, text.as_slice()),
         Err((NoMemory, _item)) => Err(WriteRefusal::NoMemory),
     }

@@ -16,7 +16,7 @@ use crate::status::Status;
 use crate::summing::run_make;
 use io_edges::{Gate, Sink, Source};
 use nav_types::Words;
-use path_workers::{Rooms, Workers};
+use path_workers::{PoolCache, Workers};
 use std::alloc::Global;
 use std::sync::Wait;
 use std::thread::Threads;
@@ -76,7 +76,7 @@ pub fn run<R: Threads + Wait + Sync, S: Source, K: Sink, G: Gate + Sync>(
                 rt,
                 workers: Workers::new(workers, gate),
                 report,
-                rooms: Rooms::new(alloc),
+                pool_cache: PoolCache::new(alloc),
             };
             run_replay(alloc, reporter, source, sink, why)
         }

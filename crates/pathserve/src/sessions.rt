@@ -19,7 +19,7 @@ use grid_versions::{MapSpec, Version};
 use io_edges::Gate;
 use nav_types::NoMemory;
 use path_service::{Callers, Closed, Driver, EndedCallers, start_service};
-use path_workers::{Rooms, Workers};
+use path_workers::{PoolCache, Workers};
 use std::alloc::Global;
 use std::sync::Wait;
 use std::sync::atomic::{AtomicBool, Ordering};
@@ -189,15 +189,15 @@ fn drive<R: Threads + Wait + Sync, G: Gate + Sync>(
     } = *session;
     let workers = Workers::new(workers, gate);
     let mut team = Team {
-        rooms: Rooms::new(alloc),
-        run: move |alloc: Global, rooms: Rooms, version: &Version, jobs: &Jobs, report: Report| -> (
-            Rooms,
+        pool_cache: PoolCache::new(alloc),
+        run: move |alloc: Global, pool_cache: PoolCache, version: &Version, jobs: &Jobs, report: Report| -> (
+            PoolCache,
             Result<NotedAnswers, NoMemory>,
         )
             requires { IsSync R.row × IsSync G.row × (length jobs.now < 2 ^ 32) }
             ensures { IfOk result.1 (λ noted. AreAnswersTo version.now.map version.now.standing jobs.now noted.answers
                 × AreNotes version.now.map version.now.standing report jobs.now noted.notes) }
-        { workers.answer_in(rt, alloc, rooms, version, jobs, report) },
+        { workers.answer_in(rt, alloc, pool_cache, version, jobs, report) },
     };
     make_turns(rt, driver, posts, &mut team, gate, short)
 }

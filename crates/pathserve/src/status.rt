@@ -1,3 +1,4 @@
+//! How a run ends.
 use std::fmt;
 
 /// How a run ended. The numbers are the exit statuses of the program.

@@ -18,7 +18,7 @@ use grid_versions::{MapSpec, Version};
 use io_edges::{Gate, Sink};
 use made_match::{Made, make_script};
 use nav_types::{Bytes, NoMemory};
-use path_workers::{Rooms, Workers};
+use path_workers::{PoolCache, Workers};
 use std::alloc::Global;
 use std::thread::Threads;
 use turn_core::{
@@ -48,15 +48,15 @@ pub fn run_make<R: Threads + Sync, K: Sink, G: Gate + Sync>(
 {
     let workers = Workers::new(workers, gate);
     let mut team = Team {
-        rooms: Rooms::new(alloc),
-        run: move |alloc: Global, rooms: Rooms, version: &Version, jobs: &Jobs, report: Report| -> (
-            Rooms,
+        pool_cache: PoolCache::new(alloc),
+        run: move |alloc: Global, pool_cache: PoolCache, version: &Version, jobs: &Jobs, report: Report| -> (
+            PoolCache,
             Result<NotedAnswers, NoMemory>,
         )
             requires { IsSync R.row × IsSync G.row × (length jobs.now < 2 ^ 32) }
             ensures { IfOk result.1 (λ noted. AreAnswersTo version.now.map version.now.standing jobs.now noted.answers
                 × AreNotes version.now.map version.now.standing report jobs.now noted.notes) }
-        { workers.answer_in(rt, alloc, rooms, version, jobs, report) },
+        { workers.answer_in(rt, alloc, pool_cache, version, jobs, report) },
     };
     match write_text(sink, summary(alloc, &mut team, seed)) {
         Ok(()) => Status::Done,

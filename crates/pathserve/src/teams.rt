@@ -3,30 +3,36 @@ ghost use Rattle.std.specs.Prelude.{◌≡◌, ◌^◌, ◌<◌, IfOk, length};
 
 use grid_versions::Version;
 use nav_types::NoMemory;
-use path_workers::Rooms;
+use path_workers::PoolCache;
 use std::alloc::Global;
 use std::mem;
 use turn_core::{Answerer, Jobs, NotedAnswers, Report};
 
-/// Workers who answer turns, one after another: `run` has them answer one, in the rooms that they kept from the turns before,
-/// and gives the rooms back.
+/// Workers who answer turns, one after another: `run` has them answer one, in the pools that they kept from the turns before,
+/// and gives the pools back.
 #[derive(Drop)]
 pub(crate) struct Team<F> {
-    pub rooms: Rooms,
+    pub pool_cache: PoolCache,
     pub run: F,
 }
 
 impl<
-    F: Fn(Global, Rooms, &Version, &Jobs, Report) -> (Rooms, Result<NotedAnswers, NoMemory>),
+    F: Fn(
+        Global,
+        PoolCache,
+        &Version,
+        &Jobs,
+        Report,
+    ) -> (PoolCache, Result<NotedAnswers, NoMemory>),
 > Answerer for Team<F> {
     ghost use Rattle.std.specs.Prelude.{◌^◌, ◌<◌, IfOk, length};
     ghost use Rattle.turn_core.specs.Notes.{AreNotes};
     ghost use Rattle.turn_core.specs.Solving.{AreAnswersTo};
 
     ghost takes = { λ team count. (count < 2 ^ 32)
-        × ((alloc rooms version jobs report : _) → length jobs.now < 2 ^ 32
-        → F.pre team.run alloc rooms version jobs report)
-        × ((alloc rooms version jobs report result : _) → F.post team.run alloc rooms version jobs report result
+        × ((alloc pool_cache version jobs report : _) → length jobs.now < 2 ^ 32
+        → F.pre team.run alloc pool_cache version jobs report)
+        × ((alloc pool_cache version jobs report result : _) → F.post team.run alloc pool_cache version jobs report result
         → IfOk result.1 (λ noted. AreAnswersTo version.now.map version.now.standing jobs.now noted.answers
         × AreNotes version.now.map version.now.standing report jobs.now noted.notes)) };
 
@@ -37,9 +43,9 @@ impl<
         jobs: &Jobs,
         report: Report,
     ) -> Result<NotedAnswers, NoMemory> {
-        let rooms = mem::replace(&mut self.rooms, Rooms::new(alloc));
-        let (rooms, noted) = (self.run)(alloc, rooms, version, jobs, report);
-        self.rooms = rooms;
+        let pool_cache = mem::replace(&mut self.pool_cache, PoolCache::new(alloc));
+        let (pool_cache, noted) = (self.run)(alloc, pool_cache, version, jobs, report);
+        self.pool_cache = pool_cache;
         noted
     }
 }

@@ -131,7 +131,7 @@ fn post_all(rt: &impl Wait, caller: &mut Caller, posts: &[Post]) -> Result<(), N
     ensures first { (rest : List APost) × (caller.new.posted ++ rest ≡ caller.old.posted ++ posts.now) }
 {
     for post in posts {
-        caller.post(rt, post.copy())?;
+        caller.post(rt, *post)?;
         let _reply = caller.collect(rt);
     }
     Ok(())

@@ -89,7 +89,7 @@ version_said said = option_map (λ map. map_state map said.standing) said.map
 
 -- what can be looked at beside a state
 abbrev pub version_in : State → Option MapState
-version_in (Text text) = version_said (said_of text.game.ground)
+version_in (Text text) = version_said (said_of text.game.progress)
 version_in (Structs structs) = Some (map_state structs.game.map (standing_in structs.game))
 version_in (View version) = Some version
 version_in (Finder finder) = None

@@ -1,14 +1,14 @@
 -- Matches by text, whose text is taken piece by piece.
 use Rattle.std.specs.Prelude.{ℕ, ◌≡◌, ◌≢◌, ◌↔◌, List, [], ◌++◌, drop, IsFalse, IsTrue, Result, Err}
 use Rattle.posts.specs.declared.notes.Report.{Report}
-use Rattle.match_play.specs.declared.states.Course.{Course}
+use Rattle.match_play.specs.declared.states.MatchState.{MatchState}
 use Rattle.match_play.specs.declared.faults.MatchFault.{MatchFault}
 use Rattle.match_play.specs.declared.faults.MatchFault.TheVariants.{Ended, NoMemory}
 use Rattle.match_play.specs.Playing.{FeedPlays, FinishPlays, HasPlayed, IsOver, TakesAll}
 
 -- the match, and the text that was told and not taken yet
 pub record TextState : Type 0 where
-  pub game : Course
+  pub game : MatchState
   pub waiting : List ℕ
 
 -- no byte has come, and nothing waits

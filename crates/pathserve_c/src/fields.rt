@@ -91,7 +91,7 @@ fn make_field(
     let Some((caller, request)) = path_asked(version, post) else {
         return Err(PostFault::BadValue);
     };
-    let Ok(Answered { answer, field }) = answer_with_field(alloc, version, &request) else {
+    let Ok(FieldAnswer { answer, field }) = answer_with_field(alloc, version, &request) else {
         return Err(PostFault::NoMemory);
     };
     write_field(&field, version.map().size(), steps, distances);
@@ -143,7 +143,7 @@ fn asks_path(request: &Request) -> bool
 
 /// The answer to a request, and its flow field where it is a path.
 #[derive(Drop)]
-struct Answered {
+struct FieldAnswer {
     answer: Answer,
     field: Option<Field>,
 }
@@ -153,7 +153,7 @@ fn answer_with_field(
     alloc: Global,
     version: &Version,
     request: &Request,
-) -> Result<Answered, NoMemory>
+) -> Result<FieldAnswer, NoMemory>
     ensures { IfOk result (IsAnsweredWith version.now request.now) }
 {
     let answer = solve(alloc, version, request)?;
@@ -161,7 +161,7 @@ fn answer_with_field(
         Answer::Path(path) => Some(field_of(alloc, version, request, path)?),
         Answer::Refused(_) | Answer::Nowhere | Answer::Region(_) => None,
     };
-    Ok(Answered { answer, field })
+    Ok(FieldAnswer { answer, field })
 }
 
 /// The flow field of a request that is answered by a path.

@@ -1,8 +1,7 @@
 //! Requests that are answered at once on what a view shows.
-ghost use Rattle.std.specs.Prelude.{◌≡◌, ℕ, [], ◌∷◌, Some, IfOk, IfSome, IsNone};
+ghost use Rattle.std.specs.Prelude.{◌≡◌, ℕ, Some, IfSome, IsNone};
 ghost use Rattle.posts.specs.declared.posts.Post.TheVariants.{Ask};
 ghost use Rattle.posts.specs.declared.posts.Request.{Request};
-ghost use Rattle.posts.specs.declared.replies.Reply.TheVariants.{Answer as Answered};
 ghost use Rattle.flat_posts.specs.Posts.{IsPost};
 ghost use Rattle.pathserve_c.specs.Finds.{FindsAs, IsFound};
 ghost use Rattle.pathserve_c.specs.Handles.{IsHandle, state_of};
@@ -11,11 +10,11 @@ use crate::finders::Finder;
 use crate::handles::Handle;
 use crate::states::State;
 use crate::statuses::{CLOSED, OTHER, PostFault, status_of_posts};
-use flat_posts::{FlatCell, FlatPost, FlatReply, write_waypoints};
+use flat_posts::{FlatCell, FlatPost, FlatReply, write_waypoints_of};
 use grid_versions::Version;
-use nav_types::{NoMemory, Sequence};
-use posts::{Answer, Post, Reply, Request, Tallies, TurnReplies};
+use posts::{Post, Reply, Request};
 use std::alloc::Global;
+use std::slice;
 
 /// Answers a post that asks for something at once, on what a view shows.
 #[unsafe(no_mangle)]
@@ -76,6 +75,7 @@ fn find_in(
 }
 
 /// Answers a post on a version. Where it refuses nothing is written.
+#[tactic(auto, using(crate::proofs::Asking::page_of_one))]
 fn find(
     alloc: Global,
     finder: &mut Finder,
@@ -93,12 +93,8 @@ fn find(
         return Err(PostFault::NoMemory);
     };
     let told = Reply::Answer(answer);
-    let flat = FlatReply::of(usize::from(caller), 0, 0, &told);
-    let Ok(only) = one_reply(alloc, told) else {
-        return Err(PostFault::NoMemory);
-    };
-    *reply = flat;
-    write_waypoints(&only, 0, waypoints);
+    *reply = FlatReply::of(usize::from(caller), 0, 0, &told);
+    write_waypoints_of(slice::from_ref(&told), waypoints);
     Ok(())
 }
 
@@ -114,23 +110,4 @@ pub(crate) fn asked(version: &Version, post: &FlatPost) -> Option<(u8, Request)>
         Ok((_, Post::Edit(_))) => None,
         Err(_) => None,
     }
-}
-
-/// The replies of a turn of one reply.
-fn one_reply(alloc: Global, reply: Reply) -> Result<TurnReplies, NoMemory>
-    ensures { IfOk result (λ told. told.replies ≡ (reply ∷ []) ∷ []) }
-{
-    let mut replies = Sequence::new(alloc);
-    replies.push(reply)?;
-    let mut lists = Sequence::new(alloc);
-    lists.push(replies)?;
-    Ok(TurnReplies {
-        tallies: Tallies {
-            regions: 0,
-            edges: 0,
-            areas: 0,
-        },
-        relabelled: 0,
-        replies: lists,
-    })
 }

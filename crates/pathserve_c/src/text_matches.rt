@@ -61,7 +61,7 @@ impl TextMatch {
 
     /// What stands after the turns that were told, as a version of its own. None exactly where the map has not come.
     pub fn view(&self, alloc: Global) -> Result<Option<Version>, NoMemory>
-        ensures { IfOk result (IsView (said_of self.now.game.ground)) }
+        ensures { IfOk result (IsView (said_of self.now.game.progress)) }
     {
         let _ = self.taken;
         self.game.view(alloc)

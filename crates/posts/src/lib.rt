@@ -10,14 +10,12 @@
 //! than this one.
 #![tactic(auto)]
 
-mod copying;
 mod edits;
 mod maps;
 mod notes;
 mod posts;
 mod replies;
 
-pub use copying::{Copied, copied_items};
 pub use edits::{Edit, EditReplies, EditReply, Edits, Refusal};
 pub use maps::{BaseRects, MapSpec};
 pub use notes::{FlowLine, FlowSummary, Note, Noted, Notes, Report};

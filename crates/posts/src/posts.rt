@@ -3,7 +3,6 @@ ghost use Rattle.std.specs.Prelude.{◌≡◌, ◌<◌, ◌^◌, [], ◌∷◌, 
 ghost use Rattle.posts.specs.Posts.{request_of, edit_of, post_count};
 ghost use Rattle.posts.specs.Callers.{list_of};
 
-use crate::copying::Copied;
 use crate::edits::Edit;
 use class_config::ClassName;
 use fixed_point::Fixed;
@@ -12,7 +11,7 @@ use nav_types::{NoMemory, Sequence};
 use std::alloc::Global;
 
 /// What a caller posts. It holds no memory.
-#[derive(Debug, Drop)]
+#[derive(Clone, Copy, Debug)]
 pub enum Post {
     /// An edit of the standing obstructions.
     Edit(Edit),
@@ -21,7 +20,7 @@ pub enum Post {
 }
 
 /// What a caller asks for. It holds no memory.
-#[derive(Debug, Drop)]
+#[derive(Clone, Copy, Debug)]
 pub enum Request {
     /// Asks for a path of a class from the point (`x`, `z`) to a goal.
     Path {
@@ -57,7 +56,7 @@ impl Post {
     {
         match self {
             Post::Edit(_) => None,
-            Post::Ask(request) => Some(request.copy()),
+            Post::Ask(request) => Some(*request),
         }
     }
 
@@ -69,49 +68,6 @@ impl Post {
             Post::Edit(edit) => Some(*edit),
             Post::Ask(_) => None,
         }
-    }
-
-    /// The same post once more.
-    pub fn copy(&self) -> Post
-        ensures { result ≡ self.now }
-    {
-        match self {
-            Post::Edit(edit) => Post::Edit(*edit),
-            Post::Ask(request) => Post::Ask(request.copy()),
-        }
-    }
-}
-
-impl Request {
-    /// The same request once more.
-    pub fn copy(&self) -> Request
-        ensures { result ≡ self.now }
-    {
-        match self {
-            Request::Path { class, x, z, goal } => Request::Path {
-                class: *class,
-                x: *x,
-                z: *z,
-                goal: *goal,
-            },
-            Request::Region { class, x, z } => Request::Region {
-                class: *class,
-                x: *x,
-                z: *z,
-            },
-        }
-    }
-}
-
-impl Copied for Post {
-    fn copy(&self, _alloc: Global) -> Result<Post, NoMemory> {
-        Ok(self.copy())
-    }
-}
-
-impl Copied for Request {
-    fn copy(&self, _alloc: Global) -> Result<Request, NoMemory> {
-        Ok(self.copy())
     }
 }
 

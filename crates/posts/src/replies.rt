@@ -1,7 +1,6 @@
 //! Replies to posts, and lists of them.
 ghost use Rattle.std.specs.Prelude.{◌≡◌, IfOk};
 
-use crate::copying::Copied;
 use crate::edits::{EditReply, Refusal};
 use nav_types::{Cell, Cost, NoMemory, Sequence};
 use std::alloc::Global;
@@ -117,30 +116,5 @@ impl Reply {
             Reply::Edit(reply) => Ok(Reply::Edit(*reply)),
             Reply::Answer(answer) => Ok(Reply::Answer(answer.copy(alloc)?)),
         }
-    }
-}
-
-impl TurnReplies {
-    /// The same replies once more.
-    pub fn copy(&self, alloc: Global) -> Result<TurnReplies, NoMemory>
-        ensures { IfOk result (λ made. made ≡ self.now) }
-    {
-        Ok(TurnReplies {
-            tallies: self.tallies,
-            relabelled: self.relabelled,
-            replies: self.replies.copy(alloc)?,
-        })
-    }
-}
-
-impl Copied for Reply {
-    fn copy(&self, alloc: Global) -> Result<Reply, NoMemory> {
-        self.copy(alloc)
-    }
-}
-
-impl Copied for TurnReplies {
-    fn copy(&self, alloc: Global) -> Result<TurnReplies, NoMemory> {
-        self.copy(alloc)
     }
 }

@@ -1,7 +1,8 @@
 -- Trees are numbered in the order of their roots.
-use Rattle.std.proofs.Common.{◌≡◌, ◌≢◌, ℕ, ◌+◌, ◌<◌, ◌≤◌, List, [], ◌∷◌, ◌++◌, length, get_or, refl, sym, ap, ◌∙◌, subst, inl, inr, arith, length-append}
+use Rattle.std.proofs.Common.{◌≡◌, ◌≢◌, ℕ, ◌+◌, ◌<◌, ◌≤◌, List, [], ◌∷◌, ◌++◌, length, get_or, set, take, refl, sym, ap, ◌∙◌, subst, inl, inr, arith, length-append}
 use Rattle.std.specs.Prelude.{Contains}
-use Rattle.std.proofs.lemmas.List.{get_or_append_left, get_or_push, get_or_read}
+use Rattle.std.proofs.lemmas.Grind.{take-set_at}
+use Rattle.std.proofs.lemmas.List.{get_or_append_left, get_or_push, get_or-set_other, get_or-take, length-set, length-take-le}
 use Rattle.std.proofs.lemmas.List.Elements.{Contains-append_left, Contains-get_or, Contains-push, Contains-push_cases}
 use Rattle.std.proofs.lemmas.List.Quantifiers.{all_pairs_push}
 use Rattle.std.proofs.lemmas.Bool.{cases_lt}
@@ -137,11 +138,9 @@ root_turn parents numbers made count fresh place forest inside long few so_far r
     )
 
 -- and at another place
-pub child_turn : (parents numbers made : List ℕ) (count fresh place number : ℕ) → IsForest parents → place < length parents → length numbers ≡ place → count ≤ place → AreRootNumbers parents numbers count → get_or parents place 0 ≢ place → number ≡ get_or numbers (get_or parents place 0) number → made ≡ numbers ++ number ∷ [] → fresh ≡ count → (length made ≡ place + 1) × ((fresh ≤ place + 1) × AreRootNumbers parents made fresh)
+pub child_turn : (parents numbers made : List ℕ) (count fresh place number : ℕ) → IsForest parents → place < length parents → length numbers ≡ place → count ≤ place → AreRootNumbers parents numbers count → get_or parents place 0 ≢ place → number ≡ get_or numbers (get_or parents place 0) 0 → made ≡ numbers ++ number ∷ [] → fresh ≡ count → (length made ≡ place + 1) × ((fresh ≤ place + 1) × AreRootNumbers parents made fresh)
 child_turn parents numbers made count fresh place number forest inside long few so_far apart read is_made is_fresh =
     let up = get_or parents place 0 in
-    let low : up < length numbers = let h = forest place inside in omega arith in
-    let same : number ≡ get_or numbers up 0 = get_or_read numbers up number low read 0 in
     let P : ℕ → Type 0 = λ y. get_or parents y 0 ≡ up in
     let Q : List ℕ → Type 0 = λ ns. AreRootNumbers parents ns fresh in
     let R : ℕ → Type 0 = λ n. AreRootNumbers parents (numbers ++ get_or numbers up 0 ∷ []) n in
@@ -149,7 +148,49 @@ child_turn parents numbers made count fresh place number forest inside long few 
       omega (arith, ap length is_made, length-append numbers (number ∷ [])),
       (
         omega arith,
-        subst Q (sym is_made) (subst S (sym same) (subst R (sym is_fresh)
+        subst Q (sym is_made) (subst S (sym read) (subst R (sym is_fresh)
             (child_numbered parents numbers count up forest (omega arith) (subst P (sym long) refl) (λ e. apart (e ∙ long)) so_far))),
       ),
     )
+
+-- the parents stand in the places from this one on
+abbrev pub AreLeft : List ℕ → List ℕ → ℕ → Type 0
+AreLeft parents places place = (k : ℕ) → place ≤ k → k < length places → get_or places k 0 ≡ get_or parents k 0
+
+still_left : (parents places made : List ℕ) (place number : ℕ) → AreLeft parents places place → made ≡ set places place number → AreLeft parents made (place + 1)
+still_left parents places made place number left put = λ k above within.
+    let wide : length made ≡ length places = ap (λ (l : List ℕ). length l) put ∙ length-set places place number in
+    ap (λ (l : List ℕ). get_or l k 0) put ∙ get_or-set_other places place k number 0 (λ same. omega (arith, same, above))
+    ∙ left k (omega (arith, above)) (omega (arith, within, wide))
+
+-- what a turn leaves at a root, where numbers are put in the places of parents
+pub root_in_place : (parents places made : List ℕ) (count fresh place : ℕ) → IsForest parents → length places ≡ length parents → place < length places
+    → count ≤ place → AreRootNumbers parents (take place places) count → AreLeft parents places place
+    → get_or places place 0 ≡ place → made ≡ set places place (count + 1) → fresh ≡ count + 1
+    → (fresh ≤ place + 1) × (AreRootNumbers parents (take (place + 1) made) fresh × AreLeft parents made (place + 1))
+root_in_place parents places made count fresh place forest wide inside few so_far left root put is_fresh =
+    let long : length (take place places) ≡ place = length-take-le place places (omega (arith, inside)) in
+    let begun : take (place + 1) made ≡ take place places ++ (count + 1) ∷ [] =
+    ap (λ (l : List ℕ). take (place + 1) l) put ∙ take-set_at places place (place + 1) (count + 1) refl inside in
+    let turn = root_turn parents (take place places) (take (place + 1) made) count fresh place forest (omega (arith, wide, inside)) long few so_far
+    (sym (left place (omega arith) inside) ∙ root) begun is_fresh in
+    (turn.1.0, (turn.1.1, still_left parents places made place (count + 1) left put))
+
+-- and at another place
+pub child_in_place : (parents places made : List ℕ) (count fresh place number : ℕ) → IsForest parents → length places ≡ length parents → place < length places
+    → count ≤ place → AreRootNumbers parents (take place places) count → AreLeft parents places place
+    → get_or places place 0 ≢ place → number ≡ get_or places (get_or places place 0) 0 → made ≡ set places place number → fresh ≡ count
+    → (fresh ≤ place + 1) × (AreRootNumbers parents (take (place + 1) made) fresh × AreLeft parents made (place + 1))
+child_in_place parents places made count fresh place number forest wide inside few so_far left apart read put is_fresh =
+    let long : length (take place places) ≡ place = length-take-le place places (omega (arith, inside)) in
+    let begun : take (place + 1) made ≡ take place places ++ number ∷ [] =
+    ap (λ (l : List ℕ). take (place + 1) l) put ∙ take-set_at places place (place + 1) number refl inside in
+    let within : place < length parents = omega (arith, wide, inside) in
+    let at : get_or places place 0 ≡ get_or parents place 0 = left place (omega arith) inside in
+    let other : get_or parents place 0 ≢ place = λ same. apart (at ∙ same) in
+    let low : get_or parents place 0 < place = let up = forest place within in omega (arith, up, other) in
+    let known : number ≡ get_or (take place places) (get_or parents place 0) 0 =
+    read ∙ ap (λ (k : ℕ). get_or places k 0) at ∙ sym (get_or-take place places (get_or parents place 0) 0 low) in
+    let turn = child_turn parents (take place places) (take (place + 1) made) count fresh place number forest within long few so_far
+    other known begun is_fresh in
+    (turn.1.0, (turn.1.1, still_left parents places made place number left put))

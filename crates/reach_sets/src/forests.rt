@@ -1,3 +1,4 @@
+//! Regions joined into areas: a union-find forest.
 ghost use Rattle.std.specs.Prelude.{◌≡◌, ℕ, ◌<◌, ◌≤◌, ◌^◌, length, sum, slice_index, All, IfOk};
 ghost use Rattle.reach_sets.specs.RegionOrder.{IsRegion};
 ghost use Rattle.reach_sets.specs.inner.Forests.{IsForest, IsRoot, AreInOneTree, KeepsTrees, JoinsTrees, IsForestOf, AreRootNumbers};
@@ -50,7 +51,7 @@ fn apart(alloc: Global, count: u32) -> Result<Vec<u32>, NoMemory>
 {
     let mut parents = Vec::with_capacity(alloc, count as usize)?;
     for place in 0..count {
-        parents.push(place)?;
+        parents.push_reserved(place);
     }
     Ok(parents)
 }
@@ -81,26 +82,23 @@ pub fn forest_of(
     Ok(parents)
 }
 
-/// The number of each place's tree, and how many trees there are.
+/// Puts the number of its tree in each place of a forest, and gives how many trees there are.
 /// Trees are numbered from 1 in the order of their roots.
-pub fn number_trees(alloc: Global, parents: &[u32]) -> Result<(Vec<u32>, u32), NoMemory>
-    requires forest { IsForest parents.now }
-    requires few { length parents.now < 2 ^ 32 }
-    ensures { IfOk result (λ made. AreRootNumbers parents.now made.0.items made.1
-        × (length made.0.items ≡ length parents.now)) }
+pub fn number_trees(places: &mut [u32]) -> u32
+    requires forest { IsForest places.old }
+    requires few { length places.old < 2 ^ 32 }
+    ensures { AreRootNumbers places.old places.new result }
 {
-    let mut numbers = Vec::with_capacity(alloc, parents.len())?;
     let mut count = 0;
-    for (place, parent) in parents.iter().enumerate() {
-        let parent = *parent as usize;
+    for place in 0..places.len() {
+        let parent = places[place] as usize;
         if parent == place {
             count += 1;
-            numbers.push(count)?;
+            places[place] = count;
         } else {
-            // a parent stands before its places, so its number is known
-            let number = numbers[parent];
-            numbers.push(number)?;
+            // a parent stands before its places, so its number is there
+            places[place] = places[parent];
         }
     }
-    Ok((numbers, count))
+    count
 }

@@ -1,3 +1,4 @@
+//! Where the regions of each chunk begin among all regions.
 ghost use Rattle.std.specs.Prelude.{◌≡◌, ◌<◌, ◌^◌, sum, IfOk};
 ghost use Rattle.reach_sets.specs.RegionOrder.{IsRegion, place};
 

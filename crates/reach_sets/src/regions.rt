@@ -1,3 +1,4 @@
+//! The numbers of regions, and pairs of them that touch.
 use nav_types::Sequence;
 
 /// A region of a chunk. Regions are ordered by chunk, then by number.

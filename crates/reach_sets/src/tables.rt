@@ -1,3 +1,4 @@
+//! The areas of all regions.
 ghost use Rattle.std.specs.Prelude.{◌≡◌, ◌≢◌, ◌<◌, ◌≤◌, ◌^◌, ◌↔◌, ℕ, List, length, sum, slice_index, All, IsTrue, IfOk};
 ghost use Rattle.reach_sets.specs.declared.regions.RegionId.{RegionId};
 ghost use Rattle.reach_sets.specs.RegionOrder.{IsRegion};
@@ -45,8 +46,8 @@ impl AreaTable {
         ensures areas { IfOk result (λ table. AreAreas regions.now links.now table) }
     {
         let offsets = Offsets::new(alloc, regions)?;
-        let parents = forest_of(alloc, &offsets, links.as_slice())?;
-        let (areas, count) = number_trees(alloc, &parents)?;
+        let mut areas = forest_of(alloc, &offsets, links.as_slice())?;
+        let count = number_trees(&mut areas);
         Ok(AreaTable {
             offsets,
             areas,

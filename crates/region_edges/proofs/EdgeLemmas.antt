@@ -17,8 +17,8 @@ use Rattle.nav_types.specs.Rects.{chunk_rect}
 use Rattle.nav_types.proofs.CellOrder.{same_cell}
 use Rattle.nav_types.proofs.Regions.{LiesIn, lies_in}
 use Rattle.chunk_regions.proofs.LabelLemmas.{in_rect}
-use Rattle.region_edges.specs.declared.neighbours.Side.{Side}
-use Rattle.region_edges.specs.declared.neighbours.Side.TheVariants.{East, North}
+use Rattle.region_edges.specs.declared.neighbours.ChunkSide.{ChunkSide}
+use Rattle.region_edges.specs.declared.neighbours.ChunkSide.TheVariants.{East, North}
 use Rattle.region_edges.specs.Edges.{LiesOn, AreNeighbours, PassesInside, IsPairBefore, AreEdges}
 use Rattle.region_edges.specs.inner.Borders.{border_length, near_cell, far_cell, Meets}
 
@@ -38,7 +38,7 @@ ends a b same = record {
 }
 
 -- the first cell of a pair along the border is one of the chunk here
-near_inside : (side : Side) (here there : Labelling) → AreNeighbours side here there → (at : ℕ) → at < border_length side here.cells.rect
+near_inside : (side : ChunkSide) (here there : Labelling) → AreNeighbours side here there → (at : ℕ) → at < border_length side here.cells.rect
     → IsInRect here.cells.rect (near_cell side here.cells.rect at)
 near_inside East here there next at within =
     let own = ends here.cells.rect (chunk_rect next.size here.chunk) next.here_extent in
@@ -58,7 +58,7 @@ near_inside North here there next at within =
     record { west = omega arith; east = omega arith; south = omega arith; north = omega arith }
 
 -- the second is one of the chunk there
-far_inside : (side : Side) (here there : Labelling) → AreNeighbours side here there → (at : ℕ) → at < border_length side here.cells.rect
+far_inside : (side : ChunkSide) (here there : Labelling) → AreNeighbours side here there → (at : ℕ) → at < border_length side here.cells.rect
     → IsInRect there.cells.rect (far_cell side there.cells.rect at)
 far_inside East here there next at within =
     let own = ends here.cells.rect (chunk_rect next.size here.chunk) next.here_extent in
@@ -78,7 +78,7 @@ far_inside North here there next at within =
     record { west = omega arith; east = omega arith; south = omega arith; north = omega arith }
 
 -- the two lie side by side
-side_by_side : (side : Side) (here there : Labelling) → AreNeighbours side here there → (at : ℕ)
+side_by_side : (side : ChunkSide) (here there : Labelling) → AreNeighbours side here there → (at : ℕ)
     → IsBeside (near_cell side here.cells.rect at) (far_cell side there.cells.rect at)
 side_by_side East here there next at =
     let own = ends here.cells.rect (chunk_rect next.size here.chunk) next.here_extent in
@@ -112,7 +112,7 @@ number_from_passes passes chunk cell number has passable none =
     let value = (has.placed passable).1.1.1.1.1.1 in omega arith
 
 -- the pairs that meet are edges
-edge_from_meeting : (side : Side) (here there : Labelling) → AreNeighbours side here there → (passes : Cell → Bool) (size : Size)
+edge_from_meeting : (side : ChunkSide) (here there : Labelling) → AreNeighbours side here there → (passes : Cell → Bool) (size : Size)
     → AreLabels passes size here.chunk here → AreLabels passes size there.chunk there → (near far : ℕ)
     → Meets side here there (border_length side here.cells.rect) (near, far) → IsEdge passes here.chunk there.chunk near far
 edge_from_meeting side here there next passes size own other near far meets =
@@ -135,7 +135,7 @@ edge_from_meeting side here there next passes size own other near far meets =
     }
 
 -- a straight step into the chunk on that side goes one column east, or one row north
-abbrev pub GoesOn : Side → Cell → Cell → Type 0
+abbrev pub GoesOn : ChunkSide → Cell → Cell → Type 0
 GoesOn East from to = (to.i ≡ from.i + 1) × (to.j ≡ from.j)
 GoesOn North from to = (to.i ≡ from.i) × (to.j ≡ from.j + 1)
 
@@ -161,7 +161,7 @@ goes_north SE from to straight leads column row = absurd (cc)
 goes_north SW from to straight leads column row = absurd (cc)
 goes_north NW from to straight leads column row = absurd (cc)
 
-pub goes_on : (passes : Cell → Bool) (side : Side) (here there : Chunk) (from to : Cell) → LiesOn side here there → LiesIn passes here from
+pub goes_on : (passes : Cell → Bool) (side : ChunkSide) (here there : Chunk) (from to : Cell) → LiesOn side here there → LiesIn passes here from
     → LiesIn passes there to → IsBeside from to → GoesOn side from to
 goes_on passes East here there from to lies a b beside =
     let ac = a.column in let ar = a.row in let bc = b.column in let br = b.row in let lc = lies.0 in let lr = lies.1 in
@@ -171,13 +171,13 @@ goes_on passes North here there from to lies a b beside =
     goes_north beside.0 from to beside.1.0 beside.1.1 (omega arith) (omega arith)
 
 -- the two cells are the pair at a place along the border
-record StandsAt (side : Side) (here there : Rect) (from to : Cell) : Type 0 where
+record StandsAt (side : ChunkSide) (here there : Rect) (from to : Cell) : Type 0 where
   at : ℕ
   within : at < border_length side here
   near_is : near_cell side here at ≡ from
   far_is : far_cell side there at ≡ to
 
-stands_at : (passes : Cell → Bool) (size : Size) (side : Side) (here there : Chunk) (own other : Rect) (from to : Cell) → LiesOn side here there
+stands_at : (passes : Cell → Bool) (size : Size) (side : ChunkSide) (here there : Chunk) (own other : Rect) (from to : Cell) → LiesOn side here there
     → own ≡ chunk_rect size here → other ≡ chunk_rect size there → IsInside size from → IsInside size to
     → LiesIn passes here from → LiesIn passes there to → GoesOn side from to → StandsAt side own other from to
 stands_at passes size East here there own other from to lies own_is other_is a_in b_in a b goes =
@@ -217,7 +217,7 @@ number_is one passes size labels inside are cell number passable has =
     (are.numbers cell (subst (λ (rect : Rect). IsInRect rect cell) (sym are.extent) place)) has
 
 -- the edges are pairs that meet
-meeting_from_edge : IsOneRegion → (side : Side) (here there : Labelling) → AreNeighbours side here there → (passes : Cell → Bool) (size : Size)
+meeting_from_edge : IsOneRegion → (side : ChunkSide) (here there : Labelling) → AreNeighbours side here there → (passes : Cell → Bool) (size : Size)
     → PassesInside passes size → AreLabels passes size here.chunk here → AreLabels passes size there.chunk there → (near far : ℕ)
     → IsEdge passes here.chunk there.chunk near far → Meets side here there (border_length side here.cells.rect) (near, far)
 meeting_from_edge one side here there next passes size inside own other near far edge =
@@ -241,7 +241,7 @@ meeting_from_edge one side here there next passes size inside own other near far
     }
 
 -- the pairs that meet along the border, in order, are the region edges
-pub AreEdges-from_meetings : IsOneRegion → (side : Side) (here there : Labelling) → AreNeighbours side here there → (edges : List (ℕ × ℕ))
+pub AreEdges-from_meetings : IsOneRegion → (side : ChunkSide) (here there : Labelling) → AreNeighbours side here there → (edges : List (ℕ × ℕ))
     → ((pair : ℕ × ℕ) → Contains edges pair ↔ Meets side here there (border_length side here.cells.rect) pair) → AllPairs IsPairBefore edges
     → (passes : Cell → Bool) (size : Size) → PassesInside passes size
     → AreLabels passes size here.chunk here → AreLabels passes size there.chunk there → AreEdges passes here.chunk there.chunk edges

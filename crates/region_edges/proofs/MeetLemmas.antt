@@ -3,25 +3,25 @@ use Rattle.std.proofs.Common.{ℕ, ◌≡◌, ◌≢◌, ◌<◌, ◌≤◌, ◌
 use Rattle.std.specs.List.{Contains}
 use Rattle.std.proofs.lemmas.Bool.{cases_lt}
 use Rattle.chunk_regions.specs.Labelling.{Labelling}
-use Rattle.region_edges.specs.declared.neighbours.Side.{Side}
+use Rattle.region_edges.specs.declared.neighbours.ChunkSide.{ChunkSide}
 use Rattle.region_edges.specs.inner.Borders.{Meets, numbers_at}
 
 -- the list has exactly the pairs that meet at the first places
-abbrev pub AreMeetings : Side → Labelling → Labelling → ℕ → List (ℕ × ℕ) → Type 0
+abbrev pub AreMeetings : ChunkSide → Labelling → Labelling → ℕ → List (ℕ × ℕ) → Type 0
 AreMeetings side here there places pairs = (pair : ℕ × ℕ) → Contains pairs pair ↔ Meets side here there places pair
 
-pub AreMeetings-none : (side : Side) (here there : Labelling) → AreMeetings side here there 0 []
+pub AreMeetings-none : (side : ChunkSide) (here there : Labelling) → AreMeetings side here there 0 []
 AreMeetings-none side here there pair =
     (λ inside. absurd (omega (arith, inside.1)), λ meets. let less = meets.within in absurd (omega arith))
 
 -- what meets at the first places still does with more places
-Meets-more : (side : Side) (here there : Labelling) (places more : ℕ) (pair : ℕ × ℕ) → places ≤ more → Meets side here there places pair
+Meets-more : (side : ChunkSide) (here there : Labelling) (places more : ℕ) (pair : ℕ × ℕ) → places ≤ more → Meets side here there places pair
     → Meets side here there more pair
 Meets-more side here there places more pair rises meets = let less = meets.within in
     record { at = meets.at; within = omega arith; is = meets.is; near_passable = meets.near_passable; far_passable = meets.far_passable }
 
 -- the pair of the next part of the border, if it is one of two regions, is put to those that meet before
-pub AreMeetings-part : (side : Side) (here there : Labelling) (places end : ℕ) (pairs more : List (ℕ × ℕ)) (next : ℕ × ℕ)
+pub AreMeetings-part : (side : ChunkSide) (here there : Labelling) (places end : ℕ) (pairs more : List (ℕ × ℕ)) (next : ℕ × ℕ)
     → AreMeetings side here there places pairs → places < end → ((place : ℕ) → places ≤ place → place < end → numbers_at side here there place ≡ next)
     → ((other : ℕ × ℕ) → Contains more other ↔ (Contains pairs other ⊎ ((other ≡ next) × (next.0 ≢ 0) × (next.1 ≢ 0))))
     → AreMeetings side here there end more

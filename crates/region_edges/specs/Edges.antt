@@ -8,16 +8,16 @@ use Rattle.nav_types.specs.Cells.{IsInside}
 use Rattle.nav_types.specs.Rects.{chunk_rect}
 use Rattle.nav_types.specs.Regions.{IsEdge}
 use Rattle.chunk_regions.specs.Labelling.{Labelling}
-use Rattle.region_edges.specs.declared.neighbours.Side.{Side}
-use Rattle.region_edges.specs.declared.neighbours.Side.TheVariants.{East, North}
+use Rattle.region_edges.specs.declared.neighbours.ChunkSide.{ChunkSide}
+use Rattle.region_edges.specs.declared.neighbours.ChunkSide.TheVariants.{East, North}
 
 -- the chunk there is the neighbour of the chunk here on that side
-abbrev pub LiesOn : Side → Chunk → Chunk → Type 0
+abbrev pub LiesOn : ChunkSide → Chunk → Chunk → Type 0
 LiesOn East here there = (there.ci ≡ here.ci + 1) × (there.cj ≡ here.cj)
 LiesOn North here there = (there.ci ≡ here.ci) × (there.cj ≡ here.cj + 1)
 
 -- the labels are of two chunks of one map, and the chunk there is the neighbour on that side: each has cells in the map
-pub record AreNeighbours (side : Side) (here there : Labelling) : Type 0 where
+pub record AreNeighbours (side : ChunkSide) (here there : Labelling) : Type 0 where
   pub size : Size
   pub lies : LiesOn side here.chunk there.chunk
   pub columns : CHUNK_SIDE * there.chunk.ci < size.w

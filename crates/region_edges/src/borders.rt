@@ -1,27 +1,28 @@
+//! The border between two chunks, read in parts along which both numbers stay the same.
 ghost use Rattle.std.specs.Prelude.{ℕ, ◌≡◌, ◌≢◌, ◌<◌, ◌≤◌, ◌↔◌, ◌⊎◌, IsTrue, IfOk, OnOk, Contains, AllPairs};
 ghost use Rattle.nav_types.specs.Numbering.{IsPatch};
 ghost use Rattle.region_edges.specs.Edges.{AreNeighbours, IsPairBefore};
 ghost use Rattle.region_edges.specs.inner.Borders.{border_length, numbers_at, Meets};
 
-use crate::neighbours::Side;
+use crate::neighbours::ChunkSide;
 use chunk_regions::Labels;
 use nav_types::{Cell, NoMemory, Rect};
 use std::alloc::Global;
 
 /// How many cells a chunk has along that side, from 1 to `CHUNK_SIDE`.
-fn length(rect: Rect, side: Side) -> u16
+fn length(rect: Rect, side: ChunkSide) -> u16
     requires { IsPatch rect }
     ensures { result ≡ border_length side rect }
 {
     match side {
-        Side::East => rect.j1 - rect.j0 + 1,
-        Side::North => rect.i1 - rect.i0 + 1,
+        ChunkSide::East => rect.j1 - rect.j0 + 1,
+        ChunkSide::North => rect.i1 - rect.i0 + 1,
     }
 }
 
 /// A part of a border along which the numbers of the two cells that lie side by side are the same.
 #[derive(Clone, Copy)]
-struct Part {
+struct BorderPart {
     /// The region numbers here and there.
     pair: (u16, u16),
     /// The first place along the border behind it.
@@ -31,9 +32,9 @@ struct Part {
 /// The region numbers of the two cells that lie side by side at a place along an east border.
 #[inline(always)]
 fn east_pair(here: &Labels, there: &Labels, at: u16) -> (u16, u16)
-    requires neighbours { AreNeighbours Side.East here.now there.now }
-    requires within { at < border_length Side.East here.now.cells.rect }
-    ensures { result ≡ numbers_at Side.East here.now there.now at }
+    requires neighbours { AreNeighbours ChunkSide.East here.now there.now }
+    requires within { at < border_length ChunkSide.East here.now.cells.rect }
+    ensures { result ≡ numbers_at ChunkSide.East here.now there.now at }
 {
     let near = here.rect();
     let far = there.rect();
@@ -45,28 +46,28 @@ fn east_pair(here: &Labels, there: &Labels, at: u16) -> (u16, u16)
 
 /// The part of an east border from a place on, up to where another pair of numbers begins.
 #[inline(always)]
-fn east_part(here: &Labels, there: &Labels, at: u16) -> Part
-    requires neighbours { AreNeighbours Side.East here.now there.now }
-    requires within { at < border_length Side.East here.now.cells.rect }
+fn east_part(here: &Labels, there: &Labels, at: u16) -> BorderPart
+    requires neighbours { AreNeighbours ChunkSide.East here.now there.now }
+    requires within { at < border_length ChunkSide.East here.now.cells.rect }
     ensures further { at < result.end }
-    ensures within { result.end ≤ border_length Side.East here.now.cells.rect }
+    ensures within { result.end ≤ border_length ChunkSide.East here.now.cells.rect }
     ensures same { (place : ℕ) → at ≤ place → place < result.end
-        → numbers_at Side.East here.now there.now place ≡ result.pair }
+        → numbers_at ChunkSide.East here.now there.now place ≡ result.pair }
 {
     let pair = east_pair(here, there, at);
-    let length = length(here.rect(), Side::East);
+    let length = length(here.rect(), ChunkSide::East);
     for place in at + 1..length {
         let next = east_pair(here, there, place);
         if next.0 != pair.0 || next.1 != pair.1 {
-            return Part { pair, end: place };
+            return BorderPart { pair, end: place };
         }
     }
-    Part { pair, end: length }
+    BorderPart { pair, end: length }
 }
 
 /// The part of the border from a place on, with the region numbers of its cells here and there.
 #[inline(always)]
-fn part_at(here: &Labels, there: &Labels, side: Side, at: u16) -> Part
+fn part_at(here: &Labels, there: &Labels, side: ChunkSide, at: u16) -> BorderPart
     requires neighbours { AreNeighbours side here.now there.now }
     requires within { at < border_length side here.now.cells.rect }
     ensures further { at < result.end }
@@ -75,26 +76,26 @@ fn part_at(here: &Labels, there: &Labels, side: Side, at: u16) -> Part
         → numbers_at side here.now there.now place ≡ result.pair }
 {
     match side {
-        Side::East => east_part(here, there, at),
-        Side::North => north_part(here, there, at),
+        ChunkSide::East => east_part(here, there, at),
+        ChunkSide::North => north_part(here, there, at),
     }
 }
 
 /// The part of a north border from a place on, up to the end of the shorter of the two stretches that begin there.
 #[inline(always)]
-fn north_part(here: &Labels, there: &Labels, at: u16) -> Part
-    requires neighbours { AreNeighbours Side.North here.now there.now }
-    requires within { at < border_length Side.North here.now.cells.rect }
+fn north_part(here: &Labels, there: &Labels, at: u16) -> BorderPart
+    requires neighbours { AreNeighbours ChunkSide.North here.now there.now }
+    requires within { at < border_length ChunkSide.North here.now.cells.rect }
     ensures further { at < result.end }
-    ensures within { result.end ≤ border_length Side.North here.now.cells.rect }
+    ensures within { result.end ≤ border_length ChunkSide.North here.now.cells.rect }
     ensures same { (place : ℕ) → at ≤ place → place < result.end
-        → numbers_at Side.North here.now there.now place ≡ result.pair }
+        → numbers_at ChunkSide.North here.now there.now place ≡ result.pair }
 {
     let near = here.rect();
     let far = there.rect();
     let one = here.stretch_at(Cell::new(near.i0 + at, near.j1));
     let other = there.stretch_at(Cell::new(far.i0 + at, far.j0));
-    Part {
+    BorderPart {
         pair: (one.region, other.region),
         end: one.last.min(other.last) - near.i0 + 1,
     }
@@ -105,7 +106,7 @@ pub fn meetings(
     alloc: Global,
     here: &Labels,
     there: &Labels,
-    side: Side,
+    side: ChunkSide,
 ) -> Result<Vec<(u16, u16)>, NoMemory>
     requires { AreNeighbours side here.now there.now }
     ensures { IfOk result (λ pairs. (pair : ℕ × ℕ) → Contains pairs.items pair

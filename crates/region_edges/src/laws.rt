@@ -1,3 +1,4 @@
+//! A law of region edges.
 ghost use Rattle.std.specs.Prelude.{ℕ, Bool, ◌≡◌, List};
 ghost use Rattle.nav_types.specs.declared.cells.Cell.{Cell};
 ghost use Rattle.nav_types.specs.declared.cells.Chunk.{Chunk};

@@ -15,4 +15,4 @@ mod laws;
 mod neighbours;
 
 pub use laws::one_edge_list;
-pub use neighbours::{Edges, Side, between};
+pub use neighbours::{ChunkSide, Edges, between};

@@ -1,3 +1,4 @@
+//! The region edges of two neighbouring chunks.
 ghost use Rattle.std.specs.Prelude.{Bool, IfOk};
 ghost use Rattle.nav_types.specs.declared.cells.Cell.{Cell};
 ghost use Rattle.nav_types.specs.declared.cells.Size.{Size};
@@ -11,7 +12,7 @@ use std::alloc::Global;
 
 /// The place of a chunk as seen from its neighbour.
 #[derive(Clone, Copy, Debug, PartialEq, Eq)]
-pub enum Side {
+pub enum ChunkSide {
     /// One chunk column further east.
     East,
     /// One chunk row further north.
@@ -26,7 +27,12 @@ pub type Edges = Sequence<(u16, u16)>;
 /// (`AreEdges`). The chunk there lies on that side of the chunk here (`AreNeighbours`). It looks at each cell
 /// along the border at most once, so at a chunk's side of them or fewer on each side. It refuses for want of memory
 /// alone.
-pub fn between(alloc: Global, here: &Labels, there: &Labels, side: Side) -> Result<Edges, NoMemory>
+pub fn between(
+    alloc: Global,
+    here: &Labels,
+    there: &Labels,
+    side: ChunkSide,
+) -> Result<Edges, NoMemory>
     requires neighbours { AreNeighbours side here.now there.now }
     ensures edges { IfOk result (λ edges. (passes : Cell → Bool) (size : Size) → PassesInside passes size
         → AreLabels passes size here.now.chunk here.now → AreLabels passes size there.now.chunk there.now

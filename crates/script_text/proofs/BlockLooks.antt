@@ -3,8 +3,8 @@ use Rattle.std.proofs.Common.{◌≡◌, ℕ, zero, suc, ◌+◌, ◌-◌, ◌%�
 use Rattle.std.specs.List.{count_by}
 use Rattle.std.proofs.lemmas.List.Sums.{sum_by-cons}
 use Rattle.std.proofs.lemmas.Bool.{and_parts, and_from, ltb-true, lt-ltb, eqb-true, false_from_ne_true}
-use Rattle.script_text.specs.declared.nesting.Standing.{Standing}
-use Rattle.script_text.specs.declared.nesting.Standing.TheVariants.{Outside, InString, BehindBackslash}
+use Rattle.script_text.specs.declared.nesting.StringState.{StringState}
+use Rattle.script_text.specs.declared.nesting.StringState.TheVariants.{Outside, InString, BehindBackslash}
 use Rattle.script_text.specs.Nesting.{opens, closes, fits, fits_in_string, fits_behind_backslash}
 use Rattle.script_text.specs.inner.Blocks.{fits_from, turned}
 use Rattle.script_text.proofs.ShallowTexts.{fits_at}
@@ -80,8 +80,8 @@ inside_all false false x y z f g k = k
 
 -- ---- bytes that fit at a depth fit at each smaller one
 
-lower_step : (byte : ℕ) (bytes : List ℕ) → ((s : Standing) (low high : ℕ) → low ≤ high → fits_at s high bytes ≡ true → fits_at s low bytes ≡ true)
-    → (s : Standing) (low high : ℕ) → low ≤ high → Kind (opens byte) (closes byte) (byte == 34) → fits_at s high (byte ∷ bytes) ≡ true → fits_at s low (byte ∷ bytes) ≡ true
+lower_step : (byte : ℕ) (bytes : List ℕ) → ((s : StringState) (low high : ℕ) → low ≤ high → fits_at s high bytes ≡ true → fits_at s low bytes ≡ true)
+    → (s : StringState) (low high : ℕ) → low ≤ high → Kind (opens byte) (closes byte) (byte == 34) → fits_at s high (byte ∷ bytes) ≡ true → fits_at s low (byte ∷ bytes) ≡ true
 lower_step byte bytes ih Outside low high le (is_opening o c q) h =
     let p = and_parts (nat_lt high 8) (fits (high + 1) bytes) (sym (fits_opening byte high bytes o) ∙ h) in
     let deep : high < 8 = ltb-true high 8 p.0 in
@@ -97,7 +97,7 @@ lower_step byte bytes ih InString low high le kind h = inside_each (byte == 34) 
     (ih Outside low high le) (ih BehindBackslash low high le) (ih InString low high le) h
 lower_step byte bytes ih BehindBackslash low high le kind h = ih InString low high le h
 
-lower : (bytes : List ℕ) (s : Standing) (low high : ℕ) → low ≤ high → fits_at s high bytes ≡ true → fits_at s low bytes ≡ true
+lower : (bytes : List ℕ) (s : StringState) (low high : ℕ) → low ≤ high → fits_at s high bytes ≡ true → fits_at s low bytes ≡ true
 lower [] Outside low high le h = refl
 lower [] InString low high le h = refl
 lower [] BehindBackslash low high le h = refl
@@ -124,8 +124,8 @@ count_more p byte bytes = let e = count_cons p byte bytes in omega (arith, e)
 
 -- ---- few openings lead nowhere deep
 
-few_step : (byte : ℕ) (bytes : List ℕ) → ((s : Standing) (depth : ℕ) → depth + count_by opens bytes ≤ 8 → fits_at s depth bytes ≡ true)
-    → (s : Standing) (depth : ℕ) → depth + count_by opens (byte ∷ bytes) ≤ 8 → Kind (opens byte) (closes byte) (byte == 34) → fits_at s depth (byte ∷ bytes) ≡ true
+few_step : (byte : ℕ) (bytes : List ℕ) → ((s : StringState) (depth : ℕ) → depth + count_by opens bytes ≤ 8 → fits_at s depth bytes ≡ true)
+    → (s : StringState) (depth : ℕ) → depth + count_by opens (byte ∷ bytes) ≤ 8 → Kind (opens byte) (closes byte) (byte == 34) → fits_at s depth (byte ∷ bytes) ≡ true
 few_step byte bytes ih Outside depth le (is_opening o c q) =
     let e = count_yes opens byte bytes o in opening_fits byte depth bytes o (omega (arith, e, le)) (ih Outside (depth + 1) (omega (arith, e, le)))
 few_step byte bytes ih Outside depth le (is_closing o c q) =
@@ -140,7 +140,7 @@ few_step byte bytes ih InString depth le kind =
     (ih Outside depth less) (ih BehindBackslash depth less) (ih InString depth less)
 few_step byte bytes ih BehindBackslash depth le kind = let e = count_more opens byte bytes in ih InString depth (omega (arith, e, le))
 
-few : (bytes : List ℕ) (s : Standing) (depth : ℕ) → depth + count_by opens bytes ≤ 8 → fits_at s depth bytes ≡ true
+few : (bytes : List ℕ) (s : StringState) (depth : ℕ) → depth + count_by opens bytes ≤ 8 → fits_at s depth bytes ≡ true
 few [] Outside depth le = refl
 few [] InString depth le = refl
 few [] BehindBackslash depth le = refl

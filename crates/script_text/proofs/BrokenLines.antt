@@ -7,8 +7,8 @@ use Rattle.std.proofs.lemmas.Str.{IsUtf8-from_is_utf8, is_utf8-from_IsUtf8}
 use Rattle.script_text.specs.declared.causes.Cause.{Cause}
 use Rattle.script_text.specs.declared.causes.Cause.TheVariants.{TooDeep, NotUtf8, NoJsonAt, EndsInString, EndsInValue, NotJson}
 use Rattle.script_text.specs.declared.causes.mistakes.Look.{Look}
-use Rattle.script_text.specs.declared.causes.mistakes.Standing.{Standing}
-use Rattle.script_text.specs.declared.causes.mistakes.Standing.TheVariants.{Outside, InWord, InString, BehindBackslash}
+use Rattle.script_text.specs.declared.causes.mistakes.LineState.{LineState}
+use Rattle.script_text.specs.declared.causes.mistakes.LineState.TheVariants.{Outside, InWord, InString, BehindBackslash}
 use Rattle.script_text.specs.declared.causes.mistakes.Mistake.{Mistake}
 use Rattle.script_text.specs.Nesting.{is_shallow}
 use Rattle.script_text.specs.Mistakes.{behind, mistake_at, ending_by, ending, told_at, broken_from, broken_cause}
@@ -57,7 +57,7 @@ broken-ending look = by_standing look.standing look.depth
     by_depth true = tt
     by_depth false = tt
 
-    by_standing : (standing : Standing) (depth : ℕ) → IsBroken (ending_by standing depth)
+    by_standing : (standing : LineState) (depth : ℕ) → IsBroken (ending_by standing depth)
     by_standing Outside depth = by_depth (nat_lt 0 depth)
     by_standing InWord depth = by_depth (nat_lt 0 depth)
     by_standing InString depth = tt

@@ -13,7 +13,7 @@ use Rattle.goal_shapes.specs.declared.goals.Goal.TheVariants.{Point, Circle, Not
 use Rattle.goal_shapes.specs.declared.goals.GoalSpec.{GoalSpec}
 use Rattle.goal_shapes.specs.declared.goals.GoalSpec.TheVariants.{Plain, Obstruction as ByObstruction}
 use Rattle.script_text.specs.Values.{obstruction_number, decimal, under, has_items, decimal_at, both, point_of, round_of, rectangle_of}
-use Rattle.script_text.specs.Goals.{goal_key_text, key_of, goal_decimals, plain_goal, grown_of, obstruction_goal, goal_of, wrong_goal}
+use Rattle.script_text.specs.Goals.{key_of, goal_decimals, plain_goal, grown_of, obstruction_goal, goal_of, wrong_goal}
 use Rattle.script_text.specs.Grammar.{IsObject, IsDecimal, IsArray, HasDecimals, rectangle_decimals, IsPlainGoal, IsGrownGoal, IsGoal}
 use Rattle.script_text.proofs.GrammarValues.{map_some, if_some, under_some, under_is, number-is, number-from, decimal-is, decimal-from, array_items-is, items_there, two_there}
 use Rattle.script_text.proofs.Members.{is_other, open_keys, open_one, has_keys-object, has_keys-other, stand-object}
@@ -31,8 +31,9 @@ use Rattle.script_text.specs.declared.causes.keys.Key.{Key}
 use Rattle.script_text.specs.declared.causes.keys.Key.TheVariants.{OfGoal}
 use Rattle.script_text.specs.declared.causes.keys.Wanted.{Wanted}
 use Rattle.script_text.specs.declared.causes.keys.Wanted.TheVariants.{TwoDecimals, ThreeDecimals, SixDecimals, NumberAndDecimal}
-use Rattle.script_text.specs.declared.causes.wrong_values.Field.{Field}
-use Rattle.script_text.specs.Causes.{key_text, is_wanted, IsWrongIn}
+use Rattle.script_text.specs.declared.causes.wrong_values.FormField.{FormField}
+use Rattle.script_text.specs.Table.{goal_key_text, key_text}
+use Rattle.script_text.specs.Causes.{is_wanted, IsWrongIn}
 use Rattle.script_text.specs.TrueCauses.{HasGrownGoal, IsTrueOf}
 use Rattle.script_text.specs.Canon.{whole_json, decimal_json, shape_json, decimals_json, goal_json, is_goal_of}
 use Rattle.script_text.specs.ReadsBack.{AreFixed, IsGoalValue}
@@ -254,7 +255,7 @@ grown : (d g : Data) (outer : List ℕ) → get outer d ≡ Some g → has_keys 
 grown d g outer at has = let opened = open_keys (codes "obstruction" ∷ []) g refl has in
     record { key = outer; goal = g; under = at; keys = inl (opened.values, opened.is) }
 
-pub goal_true : (version : ℕ) (f : Field) (d g : Data) (outer : List ℕ) → get outer d ≡ Some g → IsWrongIn f.key f.wanted d → is_some (goal_of version g) ≡ false
+pub goal_true : (version : ℕ) (f : FormField) (d g : Data) (outer : List ℕ) → get outer d ≡ Some g → IsWrongIn f.key f.wanted d → is_some (goal_of version g) ≡ false
     → IsTrueOf d (wrong_goal version f g)
 unfolding goal_of plain_goal obstruction_goal
 goal_true version f d g outer at whole none =

@@ -17,7 +17,7 @@ use Rattle.fixed_point.specs.declared.plane.Rectangle.{Rectangle}
 use Rattle.posts.specs.Maps.{Map, map_of as map_with}
 use Rattle.script_text.specs.Values.{whole, whole_in, decimal, under, array_items, has_items, whole_at, decimal_at, both, all_three, point_of, round_of, rectangle_with, rectangle_of, is_side, size_by, size_with, size_of}
 use Rattle.script_text.specs.Forms.{map_by, map_of, entry_by, entry_of, each, base_of, end_of}
-use Rattle.script_text.specs.Grammar.{IsWholeNumber, IsDecimal, IsArray, rectangle_decimals, IsMapLine, IsEntry, IsBaseLine, IsEndLine}
+use Rattle.script_text.specs.Grammar.{IsWholeNumber, IsDecimal, IsArray, rectangle_decimals, map_keys, base_keys, end_keys, IsMapLine, IsEntry, IsBaseLine, IsEndLine}
 use Rattle.nav_types.proofs.Sizes.{same_size}
 use Rattle.script_text.proofs.GrammarValues.{then_some, both_some, if_some, some_if-some, under_some, under_is, whole-is, whole-from, whole_in-is, whole_in-from, decimal-is, decimal-from, array_items-is, array_items-from, array-is, array-from, has_items-from, each-is, each-from}
 use Rattle.script_text.proofs.GrammarClasses.{classes-is, classes-from}
@@ -123,15 +123,15 @@ rectangle-from d r is =
 pub end-is : (d : Data) (turn : ℕ) → end_of d ≡ Some turn → IsEndLine turn d
 unfolding end_of
 end-is d turn e =
-    let test = if_some (has_keys (codes "end" ∷ []) d) (under whole (codes "end") d) turn e in
+    let test = if_some (has_keys end_keys d) (under whole (codes "end") d) turn e in
     let one = open_one (codes "end") d test.0 in
     (one.v, one.is, whole-is one.v turn (under_some whole (codes "end") d one.v turn one.at test.1))
 
 pub end-from : (d : Data) (turn : ℕ) → IsEndLine turn d → end_of d ≡ Some turn
 unfolding end_of
 end-from d turn line =
-    let at = stand-object (codes "end" ∷ []) (line.0 ∷ []) d refl line.1 in
-    cond-true (has_keys (codes "end" ∷ []) d) (under whole (codes "end") d) None (has_keys-object (codes "end" ∷ []) (line.0 ∷ []) d refl line.1)
+    let at = stand-object end_keys (line.0 ∷ []) d refl line.1 in
+    cond-true (has_keys end_keys d) (under whole (codes "end") d) None (has_keys-object end_keys (line.0 ∷ []) d refl line.1)
     ∙ under_is whole (codes "end") d line.0 turn at.0 (whole-from line.0 turn line.2)
 
 -- ---- base lines
@@ -195,7 +195,7 @@ entry-from size d entry is =
 pub base-is : (size : Size) (d : Data) (rects : List (Rect × ℕ)) → base_of size d ≡ Some rects → IsBaseLine size rects d
 unfolding base_of
 base-is size d rects e =
-    let test = if_some (has_keys (codes "base" ∷ []) d) (option_and_then (each (entry_of size)) (under array_items (codes "base") d)) rects e in
+    let test = if_some (has_keys base_keys d) (option_and_then (each (entry_of size)) (under array_items (codes "base") d)) rects e in
     let one = open_one (codes "base") d test.0 in
     let found = then_some (each (entry_of size)) (under array_items (codes "base") d) rects test.1 in (
       one.v,
@@ -210,9 +210,9 @@ base-is size d rects e =
 pub base-from : (size : Size) (d : Data) (rects : List (Rect × ℕ)) → IsBaseLine size rects d → base_of size d ≡ Some rects
 unfolding base_of
 base-from size d rects line =
-    let at = stand-object (codes "base" ∷ []) (line.0 ∷ []) d refl line.1 in let is = line.2 in
-    cond-true (has_keys (codes "base" ∷ []) d) (option_and_then (each (entry_of size)) (under array_items (codes "base") d)) None
-    (has_keys-object (codes "base" ∷ []) (line.0 ∷ []) d refl line.1)
+    let at = stand-object base_keys (line.0 ∷ []) d refl line.1 in let is = line.2 in
+    cond-true (has_keys base_keys d) (option_and_then (each (entry_of size)) (under array_items (codes "base") d)) None
+    (has_keys-object base_keys (line.0 ∷ []) d refl line.1)
     ∙ ap (option_and_then (each (entry_of size))) (under_is array_items (codes "base") d line.0 is.0 at.0 (array_items-from line.0 is.0 is.1))
     ∙ each-from (entry_of size) (IsEntry size) (entry-from size) rects is.0 is.2
 
@@ -256,9 +256,6 @@ map_some_parts (Some version) (Some size) (Some callers) None m e = absurd (cc)
 map_some_parts (Some version) (Some size) (Some callers) (Some classes) m e =
     let made : Map = map_with version size callers classes [] in let same : made ≡ m = cc in
     (ap (λ n. Some n.version) same, ap (λ n. Some n.size) same, ap (λ n. Some n.callers) same, ap (λ n. Some n.classes) same, sym (ap (λ n. n.base) same))
-
-abbrev pub map_keys : List (List ℕ)
-map_keys = codes "version" ∷ codes "size" ∷ codes "callers" ∷ codes "classes" ∷ []
 
 pub map-is : (d : Data) (m : Map) → map_of d ≡ Some m → IsMapLine m d
 unfolding map_of

@@ -11,6 +11,8 @@ pub mod LedLines
 pub mod FormValues
 pub mod Members
 pub mod StrangeKeys
+pub mod FormKeys
+pub mod FormTable
 pub mod GrammarValues
 pub mod GrammarClasses
 pub mod GrammarLines

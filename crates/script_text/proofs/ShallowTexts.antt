@@ -5,15 +5,15 @@ use Rattle.std.specs.List.{list_all}
 use Rattle.std.proofs.lemmas.Bool.{and_parts, leb-true, ne_eqb}
 use Rattle.std.proofs.lemmas.Bool.Decides.{Decides-eqb}
 use Rattle.json.specs.Print.{quoted}
-use Rattle.script_text.specs.declared.nesting.Standing.{Standing}
-use Rattle.script_text.specs.declared.nesting.Standing.TheVariants.{Outside, InString, BehindBackslash}
+use Rattle.script_text.specs.declared.nesting.StringState.{StringState}
+use Rattle.script_text.specs.declared.nesting.StringState.TheVariants.{Outside, InString, BehindBackslash}
 use Rattle.script_text.specs.Nesting.{opens, closes, fits, fits_in_string, fits_behind_backslash, is_shallow}
 use Rattle.script_text.specs.Causes.{is_white, is_blank}
 use Rattle.script_text.specs.inner.Plain.{is_plain}
 use Rattle.script_text.proofs.CanonTexts.{quoted-plain}
 
 -- the bytes that are left fit where a look along a line stands
-abbrev pub fits_at : Standing → ℕ → List ℕ → Bool
+abbrev pub fits_at : StringState → ℕ → List ℕ → Bool
 fits_at Outside depth bytes = fits depth bytes
 fits_at InString depth bytes = fits_in_string depth bytes
 fits_at BehindBackslash depth bytes = fits_behind_backslash depth bytes

@@ -11,8 +11,8 @@ use Rattle.script_text.specs.declared.parts.Part.{Part}
 use Rattle.script_text.specs.declared.causes.Cause.{Cause}
 use Rattle.script_text.specs.declared.causes.Cause.TheVariants.{BlankLine, ByteOrderMark, NoJsonAt, EndsInString, EndsInValue, NotJson}
 use Rattle.script_text.specs.declared.causes.mistakes.Look.{Look}
-use Rattle.script_text.specs.declared.causes.mistakes.Standing.{Standing}
-use Rattle.script_text.specs.declared.causes.mistakes.Standing.TheVariants.{Outside, InWord, InString, BehindBackslash}
+use Rattle.script_text.specs.declared.causes.mistakes.LineState.{LineState}
+use Rattle.script_text.specs.declared.causes.mistakes.LineState.TheVariants.{Outside, InWord, InString, BehindBackslash}
 use Rattle.script_text.specs.declared.causes.mistakes.Mistake.{Mistake}
 use Rattle.script_text.specs.declared.causes.mistakes.Mistake.TheVariants.{Comment, SingleQuote, NoNumber, NumberStart, BareWord, Control, Escape, TrailingComma, MissingComma, StrayColon, NoValue, BehindValue}
 use Rattle.script_text.specs.Nesting.{closes}
@@ -131,7 +131,7 @@ says-at look byte mistake e = by_standing look.standing refl e
     behind_backslash at true is h = absurd (cc)
     behind_backslash at false is h = says Escape mistake look byte h (at, is)
 
-    by_standing : (standing : Standing) → look.standing ≡ standing → mistake_by standing look byte ≡ Some mistake → Says mistake look byte
+    by_standing : (standing : LineState) → look.standing ≡ standing → mistake_by standing look byte ≡ Some mistake → Says mistake look byte
     by_standing Outside at h = outside-says look byte mistake (subst IsOutside (sym at) tt) h
     by_standing InWord at h = in_word (is_of_word byte) (subst IsOutside (sym at) tt) h
     by_standing InString at h = in_string (is_control byte) refl h
@@ -163,7 +163,7 @@ true-ending look k = by_standing look.standing refl
     by_depth true some = (tt, ltb-true 0 look.depth some)
     by_depth false none = tt
 
-    by_standing : (standing : Standing) → look.standing ≡ standing → IsTrueFrom look k [] (ending_by standing look.depth)
+    by_standing : (standing : LineState) → look.standing ≡ standing → IsTrueFrom look k [] (ending_by standing look.depth)
     by_standing Outside at = by_depth (nat_lt 0 look.depth) refl
     by_standing InWord at = by_depth (nat_lt 0 look.depth) refl
     by_standing InString at = (tt, subst IsInString (sym at) tt)

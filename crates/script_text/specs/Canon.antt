@@ -15,7 +15,8 @@ use Rattle.posts.specs.declared.edits.Edit.TheVariants.{Add, Remove, Move}
 use Rattle.posts.specs.declared.posts.Post.TheVariants.{Edit as Edits, Ask as Asks}
 use Rattle.posts.specs.declared.posts.Request.TheVariants.{Path, Region}
 use Rattle.posts.specs.Maps.{Map}
-use Rattle.script_text.specs.Goals.{goal_key_text, key_of, goal_decimals}
+use Rattle.script_text.specs.Table.{goal_key_text}
+use Rattle.script_text.specs.Goals.{key_of, goal_decimals}
 use Rattle.script_text.specs.Grammar.{shape_key, shape_decimals}
 
 -- ---- values

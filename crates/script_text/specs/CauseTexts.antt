@@ -6,7 +6,7 @@ use Rattle.script_text.specs.declared.causes.mistakes.Mistake.{Mistake}
 use Rattle.script_text.specs.declared.causes.mistakes.Mistake.TheVariants.{Comment, SingleQuote, NoNumber, NumberStart, BareWord, Control, Escape, TrailingComma, MissingComma, StrayColon, NoValue, BehindValue}
 use Rattle.script_text.specs.declared.causes.keys.Wanted.{Wanted}
 use Rattle.script_text.specs.declared.causes.keys.Wanted.TheVariants.{Whole, Caller, Turn, Sides, Classes, Rectangles, ClassName, TwoDecimals, ThreeDecimals, SixDecimals, NumberAndDecimal, Goal}
-use Rattle.script_text.specs.Causes.{key_text}
+use Rattle.script_text.specs.Table.{key_text}
 use Rattle.script_text.specs.Goals.{goal_keys_text}
 
 -- what must stand under a key

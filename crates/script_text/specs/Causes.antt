@@ -1,5 +1,5 @@
 -- Why a line is not in the grammar in its place.
-use Rattle.std.specs.Prelude.{ℕ, ◌≡◌, ◌⊎◌, ◌+◌, ◌&&◌, ◌||◌, ◌==◌, List, [], ◌∷◌, ◌++◌, length, All, nat_le, nat_lt, nat_eq, Bool, true, false, not, if◌then◌else◌, Option, Some, None, is_some, IsSome, option_and_then, bytes_eq, codes}
+use Rattle.std.specs.Prelude.{ℕ, ◌≡◌, ◌⊎◌, ◌+◌, ◌&&◌, ◌||◌, ◌==◌, List, [], ◌∷◌, ◌++◌, length, map, All, nat_lt, nat_eq, Bool, true, false, not, if◌then◌else◌, Option, Some, None, is_some, IsSome, option_and_then, bytes_eq}
 use Rattle.std.specs.List.{list_all, list_any, find, starts_with}
 use Rattle.std.specs.Str.{is_utf8}
 use Rattle.std.specs.Str.Lossy.{utf8_valid_len}
@@ -7,7 +7,7 @@ use Rattle.serde_json.specs.Data.{Data}
 use Rattle.serde_json.specs.Find.{get, as_object}
 use Rattle.nav_types.specs.declared.cells.Rect.{Rect}
 use Rattle.nav_types.specs.declared.cells.Size.{Size}
-use Rattle.class_config.specs.Forms.{has_keys, is_class_name, keys_of}
+use Rattle.class_config.specs.Forms.{is_class_name, keys_of as names_of}
 use Rattle.class_config.specs.Classes.{classes_of}
 use Rattle.posts.specs.declared.posts.Post.{Post}
 use Rattle.script_text.specs.declared.causes.Cause.{Cause}
@@ -16,45 +16,23 @@ use Rattle.script_text.specs.declared.causes.keys.Key.{Key}
 use Rattle.script_text.specs.declared.causes.keys.Key.TheVariants as key
 use Rattle.script_text.specs.declared.causes.keys.Wanted.{Wanted}
 use Rattle.script_text.specs.declared.causes.keys.Wanted.TheVariants.{Whole, Caller, Turn, Sides, Classes, Rectangles, ClassName, TwoDecimals, ThreeDecimals, SixDecimals, NumberAndDecimal, Goal}
-use Rattle.script_text.specs.declared.causes.line_forms.Form.{Form}
-use Rattle.script_text.specs.declared.causes.line_forms.Form.TheVariants as form
-use Rattle.script_text.specs.declared.causes.wrong_values.Field.{Field}
+use Rattle.script_text.specs.declared.table.Form.{Form}
+use Rattle.script_text.specs.declared.table.Form.TheVariants as form
+use Rattle.script_text.specs.declared.causes.wrong_values.FormField.{FormField}
 use Rattle.script_text.specs.declared.parts.Rules.{Rules}
 use Rattle.script_text.specs.declared.parts.Part.{Part}
 use Rattle.script_text.specs.declared.parts.Part.TheVariants.{BeforeMap, InBase, InTurns}
 use Rattle.script_text.specs.Values.{under, whole_in, whole_below, class_name, array_items, point_of, round_of, rectangle_of, size_of}
-use Rattle.script_text.specs.Forms.{each, entry_of, add_keys}
-use Rattle.script_text.specs.Goals.{goal_key_text, grown_of, goal_of, wrong_goal}
+use Rattle.script_text.specs.Table.{key_text, line_keys, keys_of, stands_in, form_of, wanted_of, widest}
+use Rattle.script_text.specs.Forms.{each, entry_of}
+use Rattle.script_text.specs.Goals.{grown_of, goal_of, wrong_goal}
 use Rattle.script_text.specs.Grammar.{IsEntry}
 use Rattle.script_text.specs.Nesting.{is_shallow}
 use Rattle.script_text.specs.Mistakes.{broken_cause}
 use Rattle.input_lines.specs.Lines.{full_lines, tail_of, first_line}
 use Rattle.script_text.specs.Script.{Place, Ends, at_place, stuck_by, is_empty, reading_of, accept}
 
--- ---- keys, and what must stand under them
-
--- a key as it stands in a line
-abbrev pub key_text : Key → List ℕ
-key_text key.Version = codes "version"
-key_text key.Size = codes "size"
-key_text key.Callers = codes "callers"
-key_text key.Classes = codes "classes"
-key_text key.Base = codes "base"
-key_text key.Caller = codes "caller"
-key_text key.Add = codes "add"
-key_text key.Unit = codes "unit"
-key_text key.Square = codes "square"
-key_text key.Mask = codes "mask"
-key_text key.Remove = codes "remove"
-key_text key.Move = codes "move"
-key_text key.To = codes "to"
-key_text key.Path = codes "path"
-key_text key.From = codes "from"
-key_text key.Goal = codes "goal"
-key_text key.Region = codes "region"
-key_text key.At = codes "at"
-key_text key.End = codes "end"
-key_text (key.OfGoal goal) = goal_key_text goal
+-- ---- what must stand under keys
 
 -- what is wanted stands under the key
 abbrev pub is_wanted : Wanted → List ℕ → Data → Bool
@@ -71,51 +49,15 @@ is_wanted SixDecimals key d = is_some (under rectangle_of key d)
 is_wanted NumberAndDecimal key d = is_some (under grown_of key d)
 is_wanted (Goal version) key d = is_some (under (goal_of version) key d)
 
-abbrev pub wants : Key → Wanted → Field
-wants key wanted = record { key = key; wanted = wanted }
-
--- a key with an obstruction number
-abbrev pub number : Key → Field
-number key = wants key (Whole 0 4294967295)
-
 -- ---- the forms of lines
 
--- the keys and values of a map line
-abbrev pub map_fields : List Field
-map_fields = wants key.Version (Whole 1 3) ∷ wants key.Size Sides ∷ wants key.Callers (Whole 1 64) ∷ wants key.Classes Classes ∷ []
+-- a key and what must stand under it, in a script of these rules, among the lines of the turn of this number
+abbrev pub field_of : Rules → ℕ → Key → FormField
+field_of rules turn k = record { key = k; wanted = wanted_of rules turn k }
 
--- those of an add line with this shape, behind the caller: from version 2 on it has a mask
-abbrev pub add_fields : ℕ → Field → List Field
-add_fields version shape = number key.Add ∷ shape ∷ (if nat_le 2 version then wants key.Mask (Whole 0 65535) ∷ [] else [])
-
--- those of each form, in their order, in a script of these rules, among the lines of the turn of this number
-abbrev pub fields_of : Rules → ℕ → Form → List Field
-fields_of rules turn form.Map = map_fields
-fields_of rules turn form.Base = wants key.Base (Rectangles rules.size) ∷ []
-fields_of rules turn form.AddUnit = wants key.Caller (Caller rules.callers) ∷ add_fields rules.version (wants key.Unit ThreeDecimals)
-fields_of rules turn form.AddSquare = wants key.Caller (Caller rules.callers) ∷ add_fields rules.version (wants key.Square SixDecimals)
-fields_of rules turn form.Remove = wants key.Caller (Caller rules.callers) ∷ number key.Remove ∷ []
-fields_of rules turn form.Move = wants key.Caller (Caller rules.callers) ∷ number key.Move ∷ wants key.To TwoDecimals ∷ []
-fields_of rules turn form.Path = wants key.Caller (Caller rules.callers) ∷ wants key.Path ClassName ∷ wants key.From TwoDecimals ∷ wants key.Goal (Goal rules.version) ∷ []
-fields_of rules turn form.Region = wants key.Caller (Caller rules.callers) ∷ wants key.Region ClassName ∷ wants key.At TwoDecimals ∷ []
-fields_of rules turn form.End = wants key.End (Turn turn) ∷ []
-
--- the form of a post line whose keys the value has, in a script of this version
-abbrev pub post_form : ℕ → Data → Option Form
-post_form version d = if has_keys (add_keys version (codes "unit")) d then Some form.AddUnit
-    else (if has_keys (add_keys version (codes "square")) d then Some form.AddSquare
-    else (if has_keys (codes "caller" ∷ codes "remove" ∷ []) d then Some form.Remove
-    else (if nat_le 3 version && has_keys (codes "caller" ∷ codes "move" ∷ codes "to" ∷ []) d then Some form.Move
-    else (if has_keys (codes "caller" ∷ codes "path" ∷ codes "from" ∷ codes "goal" ∷ []) d then Some form.Path
-    else (if has_keys (codes "caller" ∷ codes "region" ∷ codes "at" ∷ []) d then Some form.Region
-    else None)))))
-
--- the form whose keys the value has; no two have the same keys
-abbrev pub form_of : ℕ → Data → Option Form
-form_of version d = if has_keys (codes "version" ∷ codes "size" ∷ codes "callers" ∷ codes "classes" ∷ []) d then Some form.Map
-    else (if has_keys (codes "base" ∷ []) d then Some form.Base
-    else (if has_keys (codes "end" ∷ []) d then Some form.End
-    else post_form version d))
+-- those of a form, in their order
+abbrev pub fields_of : Rules → ℕ → Form → List FormField
+fields_of rules turn f = map (field_of rules turn) (keys_of rules.version f)
 
 -- the first version in which a form has the keys of the value
 abbrev pub first_version : Data → Option ℕ
@@ -128,28 +70,28 @@ abbrev pub is_no_entry : Size → Data → Bool
 is_no_entry size d = not (is_some (entry_of size d))
 
 -- the cause of items behind so many others, of which one is no rectangle: the first of these, by its number from 1
-abbrev pub wrong_items : Size → Field → ℕ → List Data → Cause
+abbrev pub wrong_items : Size → FormField → ℕ → List Data → Cause
 wrong_items size f before [] = WrongValue f.key f.wanted
 wrong_items size f before (d ∷ items) = if is_no_entry size d then WrongRectangle (before + 1) size else wrong_items size f (before + 1) items
 
 -- the cause of what is no array of rectangles
-abbrev pub wrong_array : Size → Option (List Data) → Field → Cause
+abbrev pub wrong_array : Size → Option (List Data) → FormField → Cause
 wrong_array size None f = WrongValue f.key f.wanted
 wrong_array size (Some items) f = wrong_items size f 0 items
 
-abbrev pub wrong_by : Field → Wanted → Data → Option Data → Cause
+abbrev pub wrong_by : FormField → Wanted → Data → Option Data → Cause
 wrong_by f (Goal version) d (Some g) = wrong_goal version f g
 wrong_by f (Rectangles size) d found = wrong_array size (under array_items (key_text f.key) d) f
 wrong_by f wanted d found = WrongValue f.key f.wanted
 
-abbrev pub wrong_value : Field → Data → Cause
+abbrev pub wrong_value : FormField → Data → Cause
 wrong_value f d = wrong_by f f.wanted d (get (key_text f.key) d)
 
-abbrev pub is_right : Field → Data → Bool
+abbrev pub is_right : FormField → Data → Bool
 is_right f d = is_wanted f.wanted (key_text f.key) d
 
 -- the cause that the first field gives whose value is not what is wanted
-abbrev pub first_wrong : List Field → Data → Option Cause
+abbrev pub first_wrong : List FormField → Data → Option Cause
 first_wrong [] d = None
 first_wrong (f ∷ fs) d = if is_right f d then first_wrong fs d else Some (wrong_value f d)
 
@@ -172,59 +114,44 @@ pub record IsWrongRectangle (number : ℕ) (size : Size) (d : Data) : Type 0 whe
 
 -- ---- keys of no form
 
--- the keys of lines
-abbrev pub line_keys : List Key
-line_keys = key.Version ∷ key.Size ∷ key.Callers ∷ key.Classes ∷ key.Base ∷ key.Caller ∷ key.Add ∷ key.Unit ∷ key.Square ∷ key.Mask
-    ∷ key.Remove ∷ key.Move ∷ key.To ∷ key.Path ∷ key.From ∷ key.Goal ∷ key.Region ∷ key.At ∷ key.End ∷ []
-
 -- a key that no form has, of the form of a name
 abbrev pub is_unknown : List ℕ → Bool
 is_unknown name = is_class_name name && not (list_any (λ k. bytes_eq name (key_text k)) line_keys)
 
 -- the first key of an object, in the order of their bytes, that no form has
 unfoldable pub unknown_key : Data → Option (List ℕ)
-unknown_key d = option_and_then (λ ms. find is_unknown (keys_of ms)) (as_object d)
+unknown_key d = option_and_then (λ ms. find is_unknown (names_of ms)) (as_object d)
 
 -- the first of these keys under which nothing stands
 abbrev pub first_missing : List Key → Data → Option Key
 first_missing [] d = None
 first_missing (k ∷ ks) d = if is_some (get (key_text k) d) then first_missing ks d else Some k
 
--- the version of the script; before the map line, the newest
-abbrev pub version_of : Part → ℕ
-version_of BeforeMap = 3
-version_of (InBase rules) = rules.version
-version_of (InTurns rules) = rules.version
+-- something stands under a key
+abbrev pub has_key : Key → Data → Bool
+has_key k d = is_some (get (key_text k) d)
 
--- the keys of the add line with this shape: from version 2 on the mask too
-abbrev pub add_keys_named : ℕ → Bool → List Key
-add_keys_named version square = key.Caller ∷ key.Add ∷ (if square then key.Square else key.Unit) ∷ (if nat_le 2 version then key.Mask ∷ [] else [])
-
--- the keys of the form that a key of the value names, behind the map line: none, where no key names one
-abbrev pub named_later : ℕ → Data → List Key
-named_later version d = if is_some (get (codes "add") d) then add_keys_named version (is_some (get (codes "square") d))
-    else (if is_some (get (codes "remove") d) then key.Caller ∷ key.Remove ∷ []
-    else (if nat_le 3 version && is_some (get (codes "move") d) then key.Caller ∷ key.Move ∷ key.To ∷ []
-    else (if is_some (get (codes "path") d) then key.Caller ∷ key.Path ∷ key.From ∷ key.Goal ∷ []
-    else (if is_some (get (codes "region") d) then key.Caller ∷ key.Region ∷ key.At ∷ []
-    else (if is_some (get (codes "base") d) then key.Base ∷ []
-    else (if is_some (get (codes "end") d) then key.End ∷ []
-    else []))))))
-
--- the keys of a map line
-abbrev pub map_keys : List Key
-map_keys = key.Version ∷ key.Size ∷ key.Callers ∷ key.Classes ∷ []
+-- the form that a key of the value names, behind the map line
+abbrev pub named_form : ℕ → Data → Option Form
+named_form version d = if has_key key.Add d then Some (if has_key key.Square d then form.AddSquare else form.AddUnit)
+    else (if has_key key.Remove d then Some form.Remove
+    else (if stands_in version form.Move && has_key key.Move d then Some form.Move
+    else (if has_key key.Path d then Some form.Path
+    else (if has_key key.Region d then Some form.Region
+    else (if has_key key.Base d then Some form.Base
+    else (if has_key key.End d then Some form.End
+    else None))))))
 
 -- something stands under one of the keys
 abbrev pub has_any : List Key → Data → Bool
 has_any [] d = false
-has_any (k ∷ ks) d = if is_some (get (key_text k) d) then true else has_any ks d
+has_any (k ∷ ks) d = if has_key k d then true else has_any ks d
 
 -- the same in any part: before the map line each of its keys names it
-abbrev pub named_keys : Part → Data → List Key
-named_keys BeforeMap d = if has_any map_keys d then map_keys else []
-named_keys (InBase rules) d = named_later rules.version d
-named_keys (InTurns rules) d = named_later rules.version d
+abbrev pub named_in : Part → Data → Option Form
+named_in BeforeMap d = if has_any (keys_of widest.version form.Map) d then Some form.Map else None
+named_in (InBase rules) d = named_form rules.version d
+named_in (InTurns rules) d = named_form rules.version d
 
 -- the key is there and not among the others
 abbrev pub is_surplus : Key → List Key → Data → Bool
@@ -240,17 +167,23 @@ unfit_by (Some k) surplus = MissingKey k
 unfit_by None (Some k) = SurplusKey k
 unfit_by None None = NoSuchForm
 
--- a line that is to have exactly these keys: it lacks one, or has one too many
-abbrev pub unfit_cause : List Key → Data → Cause
-unfit_cause [] d = NoSuchForm
-unfit_cause (k ∷ ks) d = unfit_by (first_missing (k ∷ ks) d) (first_surplus line_keys (k ∷ ks) d)
+-- a line that does not fit the form that is named: it lacks a key of it, or has one too many
+abbrev pub unfit_cause : ℕ → Option Form → Data → Cause
+unfit_cause version None d = NoSuchForm
+unfit_cause version (Some f) d = unfit_by (first_missing (keys_of version f) d) (first_surplus line_keys (keys_of version f) d)
 
 -- a line with the keys of no form in any version: it has a key that no form has, or does not fit the form that one names
-abbrev pub strange_cause : Option (List ℕ) → List Key → Data → Cause
-strange_cause (Some name) keys d = UnknownKey name
-strange_cause None keys d = unfit_cause keys d
+abbrev pub strange_cause : Option (List ℕ) → ℕ → Option Form → Data → Cause
+strange_cause (Some name) version named d = UnknownKey name
+strange_cause None version named d = unfit_cause version named d
 
 -- ---- lines in their places
+
+-- the version of the script; before the map line, the newest
+abbrev pub version_of : Part → ℕ
+version_of BeforeMap = widest.version
+version_of (InBase rules) = rules.version
+version_of (InTurns rules) = rules.version
 
 abbrev pub is_map : Form → Bool
 is_map form.Map = true
@@ -262,7 +195,7 @@ is_base other = false
 
 -- a line that has the keys of a form of the script's version: it may not stand here, or a value is wrong
 abbrev pub form_cause : Part → ℕ → Data → Form → Option Cause
-form_cause BeforeMap turn d f = if is_map f then first_wrong map_fields d else Some NotHere
+form_cause BeforeMap turn d f = if is_map f then first_wrong (fields_of widest turn f) d else Some NotHere
 form_cause (InBase rules) turn d f = if is_map f then Some NotHere else first_wrong (fields_of rules turn f) d
 form_cause (InTurns rules) turn d f = if is_map f || is_base f then Some NotHere else first_wrong (fields_of rules turn f) d
 
@@ -272,7 +205,7 @@ other_version version first = if nat_lt version first then LaterVersion first el
 
 -- a line that has the keys of no form of the script's version
 abbrev pub no_form_cause : Part → Option ℕ → Data → Cause
-no_form_cause part None d = strange_cause (unknown_key d) (named_keys part d) d
+no_form_cause part None d = strange_cause (unknown_key d) (version_of part) (named_in part d) d
 no_form_cause BeforeMap (Some first) d = NotHere
 no_form_cause part (Some first) d = other_version (version_of part) first
 

@@ -14,20 +14,11 @@ use Rattle.script_text.specs.declared.causes.Cause.{Cause}
 use Rattle.script_text.specs.declared.causes.Cause.TheVariants.{WrongValue, LaterVersion}
 use Rattle.script_text.specs.declared.causes.keys.Key.TheVariants.{OfGoal}
 use Rattle.script_text.specs.declared.causes.keys.Wanted.TheVariants.{TwoDecimals, ThreeDecimals, SixDecimals, NumberAndDecimal}
-use Rattle.script_text.specs.declared.causes.wrong_values.Field.{Field}
+use Rattle.script_text.specs.declared.causes.wrong_values.FormField.{FormField}
 use Rattle.script_text.specs.Grammar.{rectangle_decimals}
 use Rattle.script_text.specs.Values.{obstruction_number, under, has_items, decimal_at, both, point_of, round_of, rectangle_of}
 
--- the keys of goals
-abbrev pub goal_key_text : GoalKey → List ℕ
-goal_key_text key.Point = codes "point"
-goal_key_text key.Circle = codes "circle"
-goal_key_text key.NotCircle = codes "not-circle"
-goal_key_text key.Square = codes "square"
-goal_key_text key.NotSquare = codes "not-square"
-goal_key_text key.Obstruction = codes "obstruction"
-
--- all of them, in words
+-- the keys of goals, in words
 abbrev pub goal_keys_text : List ℕ
 goal_keys_text = codes "point, circle, not-circle, square, not-square or, from version 3 on, obstruction"
 
@@ -71,7 +62,7 @@ unfoldable pub goal_of : ℕ → Data → Option GoalSpec
 goal_of version d = option_or (option_map Plain (plain_goal d)) (obstruction_goal version d)
 
 -- the cause of a goal that is none in a script of this version: the value under its key, its version, or its keys
-abbrev pub wrong_goal : ℕ → Field → Data → Cause
+abbrev pub wrong_goal : ℕ → FormField → Data → Cause
 wrong_goal version f g = if has_keys (codes "point" ∷ []) g then WrongValue (OfGoal key.Point) TwoDecimals
     else (if has_keys (codes "circle" ∷ []) g then WrongValue (OfGoal key.Circle) ThreeDecimals
     else (if has_keys (codes "not-circle" ∷ []) g then WrongValue (OfGoal key.NotCircle) ThreeDecimals

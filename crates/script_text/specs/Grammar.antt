@@ -1,6 +1,6 @@
 -- The grammar of the lines of a script: which readings are lines, and what they say. An object has the members that are
 -- listed and no others, in any order. Coordinates and lengths are raw fixed-point numbers, of 65536 to a navcell.
-use Rattle.std.specs.Prelude.{◌≡◌, ◌≢◌, ◌⊎◌, ℕ, ◌<◌, ◌≤◌, ⊤, List, [], ◌∷◌, length, All, IsTrue, ℤ, Some, codes}
+use Rattle.std.specs.Prelude.{◌≡◌, ◌≢◌, ◌⊎◌, ℕ, ◌<◌, ◌≤◌, ⊤, List, [], ◌∷◌, length, All, IsTrue, ℤ, Some, codes, nat_le, if◌then◌else◌}
 use Rattle.serde_json.specs.Data.{Data, number, unsigned, string, array, object, Members, no_members, member}
 use Rattle.serde_json.specs.View.{items_of}
 use Rattle.nav_types.specs.declared.cells.Rect.{Rect}
@@ -45,6 +45,40 @@ pub record IsObject (keys : List (List ℕ)) (values : List Data) (d : Data) : T
   pub members : Members
   pub is : d ≡ object members
   pub are : AreMembers keys values members
+
+-- ---- the keys of each form
+
+abbrev pub map_keys : List (List ℕ)
+map_keys = codes "version" ∷ codes "size" ∷ codes "callers" ∷ codes "classes" ∷ []
+
+abbrev pub base_keys : List (List ℕ)
+base_keys = codes "base" ∷ []
+
+-- those of an add line with its shape under this key, without a mask and with one
+abbrev pub bare_add_keys : List ℕ → List (List ℕ)
+bare_add_keys shape = codes "caller" ∷ codes "add" ∷ shape ∷ []
+
+abbrev pub masked_add_keys : List ℕ → List (List ℕ)
+masked_add_keys shape = codes "caller" ∷ codes "add" ∷ shape ∷ codes "mask" ∷ []
+
+-- in a script of this version: under versions 2 and 3 there is a mask
+abbrev pub add_keys : ℕ → List ℕ → List (List ℕ)
+add_keys version shape = codes "caller" ∷ codes "add" ∷ shape ∷ (if nat_le 2 version then codes "mask" ∷ [] else [])
+
+abbrev pub remove_keys : List (List ℕ)
+remove_keys = codes "caller" ∷ codes "remove" ∷ []
+
+abbrev pub move_keys : List (List ℕ)
+move_keys = codes "caller" ∷ codes "move" ∷ codes "to" ∷ []
+
+abbrev pub path_keys : List (List ℕ)
+path_keys = codes "caller" ∷ codes "path" ∷ codes "from" ∷ codes "goal" ∷ []
+
+abbrev pub region_keys : List (List ℕ)
+region_keys = codes "caller" ∷ codes "region" ∷ codes "at" ∷ []
+
+abbrev pub end_keys : List (List ℕ)
+end_keys = codes "end" ∷ []
 
 -- ---- values
 
@@ -101,7 +135,7 @@ pub record IsMapLine (m : Map) (d : Data) : Type 0 where
   pub size : Data
   pub callers : Data
   pub classes : Data
-  pub keys : IsObject (codes "version" ∷ codes "size" ∷ codes "callers" ∷ codes "classes" ∷ []) (version ∷ size ∷ callers ∷ classes ∷ []) d
+  pub keys : IsObject map_keys (version ∷ size ∷ callers ∷ classes ∷ []) d
   pub says_version : IsWholeNumber m.version version
   pub oldest : 1 ≤ m.version
   pub newest : m.version ≤ 3
@@ -119,7 +153,7 @@ pub record IsEntry (size : Size) (entry : Rect × ℕ) (d : Data) : Type 0 where
   pub mask : entry.1 ≤ 65535
 
 abbrev pub IsBaseLine : Size → List (Rect × ℕ) → Data → Type 0
-IsBaseLine size rects d = (base : Data) × IsObject (codes "base" ∷ []) (base ∷ []) d × IsArray (IsEntry size) rects base
+IsBaseLine size rects d = (base : Data) × IsObject base_keys (base ∷ []) d × IsArray (IsEntry size) rects base
 
 -- ---- goals
 
@@ -167,8 +201,8 @@ shape_decimals (SquareShape rectangle) = rectangle_decimals rectangle
 -- the keys of an add line: from version 2 on it has a mask, and before it the mask is of every class
 abbrev pub HasAddKeys : ℕ → ℕ → List ℕ → Data → Data → Data → Data → Type 0
 HasAddKeys version mask key caller add shape d =
-    ((version < 2) × (mask ≡ 65535) × IsObject (codes "caller" ∷ codes "add" ∷ key ∷ []) (caller ∷ add ∷ shape ∷ []) d)
-    ⊎ ((2 ≤ version) × ((bits : Data) × IsObject (codes "caller" ∷ codes "add" ∷ key ∷ codes "mask" ∷ []) (caller ∷ add ∷ shape ∷ bits ∷ []) d
+    ((version < 2) × (mask ≡ 65535) × IsObject (bare_add_keys key) (caller ∷ add ∷ shape ∷ []) d)
+    ⊎ ((2 ≤ version) × ((bits : Data) × IsObject (masked_add_keys key) (caller ∷ add ∷ shape ∷ bits ∷ []) d
     × IsWholeNumber mask bits × (mask ≤ 65535)))
 
 -- what stands under the key of the caller is the caller's number, below the number of callers
@@ -180,24 +214,24 @@ IsPostLine version callers caller (Edits (Add id o)) d =
     (c : Data) × (add : Data) × (shape : Data) × HasAddKeys version o.mask (shape_key o.shape) c add shape d
     × IsCaller callers caller c × IsNumber id add × IsArray IsDecimal (shape_decimals o.shape) shape
 IsPostLine version callers caller (Edits (Remove id)) d =
-    (c : Data) × (remove : Data) × IsObject (codes "caller" ∷ codes "remove" ∷ []) (c ∷ remove ∷ []) d
+    (c : Data) × (remove : Data) × IsObject remove_keys (c ∷ remove ∷ []) d
     × IsCaller callers caller c × IsNumber id remove
 IsPostLine version callers caller (Edits (Move id x z)) d =
-    (c : Data) × (move : Data) × (to : Data) × IsObject (codes "caller" ∷ codes "move" ∷ codes "to" ∷ []) (c ∷ move ∷ to ∷ []) d
+    (c : Data) × (move : Data) × (to : Data) × IsObject move_keys (c ∷ move ∷ to ∷ []) d
     × IsCaller callers caller c × IsNumber id move × IsArray IsDecimal (x ∷ z ∷ []) to × (3 ≤ version)
 IsPostLine version callers caller (Asks (Path class x z goal)) d =
     (c : Data) × (path : Data) × (from : Data) × (to : Data)
-    × IsObject (codes "caller" ∷ codes "path" ∷ codes "from" ∷ codes "goal" ∷ []) (c ∷ path ∷ from ∷ to ∷ []) d
+    × IsObject path_keys (c ∷ path ∷ from ∷ to ∷ []) d
     × IsCaller callers caller c × IsName class path × IsArray IsDecimal (x ∷ z ∷ []) from × IsGoal version goal to
 IsPostLine version callers caller (Asks (Region class x z)) d =
     (c : Data) × (region : Data) × (place : Data)
-    × IsObject (codes "caller" ∷ codes "region" ∷ codes "at" ∷ []) (c ∷ region ∷ place ∷ []) d
+    × IsObject region_keys (c ∷ region ∷ place ∷ []) d
     × IsCaller callers caller c × IsName class region × IsArray IsDecimal (x ∷ z ∷ []) place
 
 -- ---- the end line
 
 abbrev pub IsEndLine : ℕ → Data → Type 0
-IsEndLine turn d = (end : Data) × IsObject (codes "end" ∷ []) (end ∷ []) d × IsWholeNumber turn end
+IsEndLine turn d = (end : Data) × IsObject end_keys (end ∷ []) d × IsWholeNumber turn end
 
 -- ---- all lines
 

@@ -13,6 +13,7 @@ pub mod Items
 pub mod Mistakes
 pub mod ReadsBack
 pub mod Script
+pub mod Table
 pub mod TrueBytes
 pub mod TrueCauses
 pub mod Values

@@ -5,8 +5,8 @@ use Rattle.json.specs.Word.{is_space}
 use Rattle.script_text.specs.declared.causes.Cause.{Cause}
 use Rattle.script_text.specs.declared.causes.Cause.TheVariants.{NoJsonAt, EndsInString, EndsInValue, NotJson}
 use Rattle.script_text.specs.declared.causes.mistakes.Look.{Look}
-use Rattle.script_text.specs.declared.causes.mistakes.Standing.{Standing}
-use Rattle.script_text.specs.declared.causes.mistakes.Standing.TheVariants.{Outside, InWord, InString, BehindBackslash}
+use Rattle.script_text.specs.declared.causes.mistakes.LineState.{LineState}
+use Rattle.script_text.specs.declared.causes.mistakes.LineState.TheVariants.{Outside, InWord, InString, BehindBackslash}
 use Rattle.script_text.specs.declared.causes.mistakes.Mistake.{Mistake}
 use Rattle.script_text.specs.declared.causes.mistakes.Mistake.TheVariants.{Comment, SingleQuote, NoNumber, NumberStart, BareWord, Control, Escape, TrailingComma, MissingComma, StrayColon, NoValue, BehindValue}
 use Rattle.script_text.specs.Nesting.{opens, closes}
@@ -44,10 +44,10 @@ ends_value last = not (last == 32 || last == 44 || last == 58 || opens last)
 
 -- Where a look stands behind one more byte. A quote begins a string, and the next quote without a backslash before it
 -- ends it.
-abbrev pub standing_outside : ℕ → Standing
+abbrev pub standing_outside : ℕ → LineState
 standing_outside byte = if byte == 34 then InString else (if is_of_word byte then InWord else Outside)
 
-abbrev pub standing_behind : Standing → ℕ → Standing
+abbrev pub standing_behind : LineState → ℕ → LineState
 standing_behind Outside byte = standing_outside byte
 standing_behind InWord byte = standing_outside byte
 standing_behind InString byte = if byte == 34 then Outside else (if byte == 92 then BehindBackslash else InString)
@@ -57,7 +57,7 @@ standing_behind BehindBackslash byte = InString
 abbrev pub depth_outside : ℕ → ℕ → ℕ
 depth_outside depth byte = if opens byte then depth + 1 else (if closes byte then depth - 1 else depth)
 
-abbrev pub depth_behind : Standing → ℕ → ℕ → ℕ
+abbrev pub depth_behind : LineState → ℕ → ℕ → ℕ
 depth_behind Outside depth byte = depth_outside depth byte
 depth_behind InWord depth byte = depth_outside depth byte
 depth_behind InString depth byte = depth
@@ -123,7 +123,7 @@ mistake_outside look byte = if is_space byte then None
     else Some (strange_byte byte)))))
 
 -- what is wrong with a byte behind what was seen
-abbrev pub mistake_by : Standing → Look → ℕ → Option Mistake
+abbrev pub mistake_by : LineState → Look → ℕ → Option Mistake
 mistake_by Outside look byte = mistake_outside look byte
 mistake_by InWord look byte = if is_of_word byte then None else mistake_outside look byte
 mistake_by InString look byte = where_true (is_control byte) Control
@@ -134,7 +134,7 @@ mistake_at look byte = mistake_by look.standing look byte
 
 -- ---- the cause of a line in UTF-8 that is no JSON value
 
-abbrev pub ending_by : Standing → ℕ → Cause
+abbrev pub ending_by : LineState → ℕ → Cause
 ending_by Outside depth = if nat_lt 0 depth then EndsInValue else NotJson
 ending_by InWord depth = if nat_lt 0 depth then EndsInValue else NotJson
 ending_by InString depth = EndsInString

@@ -5,8 +5,8 @@ use Rattle.json.specs.Word.{is_space}
 use Rattle.script_text.specs.declared.causes.Cause.{Cause}
 use Rattle.script_text.specs.declared.causes.Cause.TheVariants.{BlankLine, ByteOrderMark, TooDeep, NotUtf8, NoJsonAt, EndsInString, EndsInValue, NotJson}
 use Rattle.script_text.specs.declared.causes.mistakes.Look.{Look}
-use Rattle.script_text.specs.declared.causes.mistakes.Standing.{Standing}
-use Rattle.script_text.specs.declared.causes.mistakes.Standing.TheVariants.{Outside, InWord, InString, BehindBackslash}
+use Rattle.script_text.specs.declared.causes.mistakes.LineState.{LineState}
+use Rattle.script_text.specs.declared.causes.mistakes.LineState.TheVariants.{Outside, InWord, InString, BehindBackslash}
 use Rattle.script_text.specs.declared.causes.mistakes.Mistake.{Mistake}
 use Rattle.script_text.specs.declared.causes.mistakes.Mistake.TheVariants.{Comment, SingleQuote, NoNumber, NumberStart, BareWord, Control, Escape, TrailingComma, MissingComma, StrayColon, NoValue, BehindValue}
 use Rattle.script_text.specs.Nesting.{closes}
@@ -19,7 +19,7 @@ HasNoMistake look [] = ⊤
 HasNoMistake look (byte ∷ bytes) = (mistake_at look byte ≡ None) × HasNoMistake (behind look byte) bytes
 
 -- no string goes on
-abbrev pub IsOutside : Standing → Type 0
+abbrev pub IsOutside : LineState → Type 0
 IsOutside Outside = ⊤
 IsOutside InWord = ⊤
 IsOutside InString = ⊥
@@ -58,7 +58,7 @@ abbrev pub IsTextUpTo : List ℕ → ℕ → Type 0
 IsTextUpTo line place = (n : ℕ) × (place ≡ n + 1) × IsValidUpTo line n
 
 -- a line without a mistake leaves a string open
-abbrev pub IsInString : Standing → Type 0
+abbrev pub IsInString : LineState → Type 0
 IsInString Outside = ⊥
 IsInString InWord = ⊥
 IsInString InString = ⊤

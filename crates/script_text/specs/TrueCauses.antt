@@ -5,9 +5,9 @@ use Rattle.serde_json.specs.Find.{get}
 use Rattle.script_text.specs.declared.causes.Cause.{Cause}
 use Rattle.script_text.specs.declared.causes.Cause.TheVariants.{BlankLine, ByteOrderMark, TooDeep, NotUtf8, NoJsonAt, EndsInString, EndsInValue, NotJson, UnknownKey, MissingKey, SurplusKey, NoSuchForm, WrongValue, WrongRectangle, MissingMask, LaterVersion, NotHere, EndsInsideTurn, NoLine}
 use Rattle.script_text.specs.declared.causes.keys.Key.{Key}
-use Rattle.script_text.specs.Forms.{add_keys}
-use Rattle.script_text.specs.Grammar.{IsObject}
-use Rattle.script_text.specs.Causes.{key_text, line_keys, IsWrongIn, IsWrongRectangle}
+use Rattle.script_text.specs.Grammar.{IsObject, map_keys, base_keys, end_keys, add_keys, remove_keys, move_keys, path_keys, region_keys}
+use Rattle.script_text.specs.Table.{key_text, line_keys}
+use Rattle.script_text.specs.Causes.{IsWrongIn, IsWrongRectangle}
 
 -- one of these lists of keys is that of the value: it is an object with exactly these keys
 abbrev pub HasOneOf : List (List (List ℕ)) → Data → Type 0
@@ -17,8 +17,8 @@ HasOneOf (keys ∷ others) d = ((values : List Data) × IsObject keys values d) 
 -- the keys of a path line and of a region line, and from version 3 on those of a move line
 abbrev pub newer_keys : ℕ → List (List (List ℕ))
 newer_keys version =
-    let asks = (codes "caller" ∷ codes "path" ∷ codes "from" ∷ codes "goal" ∷ []) ∷ (codes "caller" ∷ codes "region" ∷ codes "at" ∷ []) ∷ [] in
-    if nat_le 3 version then (codes "caller" ∷ codes "move" ∷ codes "to" ∷ []) ∷ asks else asks
+    let asks = path_keys ∷ region_keys ∷ [] in
+    if nat_le 3 version then move_keys ∷ asks else asks
 
 -- the keys of an add line of each shape
 abbrev pub both_adds : ℕ → List (List (List ℕ))
@@ -26,8 +26,8 @@ both_adds version = add_keys version (codes "unit") ∷ add_keys version (codes 
 
 -- the keys of each form of a script of this version
 abbrev pub keys_of_forms : ℕ → List (List (List ℕ))
-keys_of_forms version = (codes "version" ∷ codes "size" ∷ codes "callers" ∷ codes "classes" ∷ []) ∷ (codes "base" ∷ []) ∷ (codes "end" ∷ [])
-    ∷ add_keys version (codes "unit") ∷ add_keys version (codes "square") ∷ (codes "caller" ∷ codes "remove" ∷ []) ∷ newer_keys version
+keys_of_forms version = map_keys ∷ base_keys ∷ end_keys ∷ add_keys version (codes "unit") ∷ add_keys version (codes "square") ∷ remove_keys
+    ∷ newer_keys version
 
 -- the keys of the value are those of a form of this version
 abbrev pub HasForm : ℕ → Data → Type 0

@@ -4,7 +4,6 @@ ghost use Rattle.serde_json.specs.View.{view};
 ghost use Rattle.script_text.specs.Causes as why;
 
 mod keys;
-mod line_forms;
 mod mistakes;
 mod strange_keys;
 pub(crate) mod wrong_values;
@@ -12,17 +11,17 @@ pub(crate) mod wrong_values;
 use crate::nesting::is_shallow;
 use crate::parts::{Part, Rules};
 use crate::progress::read_line;
+use crate::table::{Form, first_version, form_of, widest};
 use class_config::ClassName;
 pub use keys::{Key, Wanted};
-use line_forms::{Form, first_version, form_of};
 pub use mistakes::Mistake;
 use mistakes::broken_cause;
 use nav_types::{NoMemory, Size};
 use serde_json::Value;
 use std::alloc::Global;
 use std::{fmt, str};
-use strange_keys::{unfit_cause, unknown_key};
-use wrong_values::{fields_cause, map_cause};
+use strange_keys::{named_in, unfit_cause, unknown_key};
+use wrong_values::fields_cause;
 
 /// The bytes with which some editors begin a file.
 const BYTE_ORDER_MARK: [u8; 3] = [0xEF, 0xBB, 0xBF];
@@ -235,7 +234,7 @@ fn version_of(part: Part) -> u8
     ensures { result ≡ why.version_of part }
 {
     match part {
-        Part::BeforeMap => 3,
+        Part::BeforeMap => widest().version,
         Part::InBase(rules) => rules.version,
         Part::InTurns(rules) => rules.version,
     }
@@ -253,7 +252,7 @@ fn form_cause(
 {
     match part {
         Part::BeforeMap => match form {
-            Form::Map => map_cause(alloc, value),
+            Form::Map => fields_cause(alloc, widest(), turn, form, value),
             _ => Ok(Some(Cause::NotHere)),
         },
         Part::InBase(rules) => match form {
@@ -281,12 +280,12 @@ fn no_form_cause(part: Part, first: Option<u8>, value: &Value) -> Cause
 
 /// The cause of a line that has the keys of no form in any version.
 fn strange_cause(part: Part, value: &Value) -> Cause
-    ensures { result ≡ why.strange_cause (why.unknown_key (view value.now)) (why.named_keys part (view value.now))
-        (view value.now) }
+    ensures { result ≡ why.strange_cause (why.unknown_key (view value.now)) (why.version_of part)
+        (why.named_in part (view value.now)) (view value.now) }
 {
     match unknown_key(value) {
         Some(key) => Cause::UnknownKey { key },
-        None => unfit_cause(part, value),
+        None => unfit_cause(version_of(part), named_in(part, value), value),
     }
 }
 

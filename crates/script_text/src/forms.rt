@@ -1,16 +1,19 @@
-//! The forms of lines, over the reading of a line.
+//! What the lines say, over the reading of a line, by the table of forms.
 ghost use Rattle.std.specs.Prelude.{◌≡◌, ◌<◌, All, IfOk, IfSome};
 ghost use Rattle.nav_types.specs.Cells.{IsRectInside};
 ghost use Rattle.serde_json.specs.View.{view};
 ghost use Rattle.class_config.specs.Classes.{classes_of};
 ghost use Rattle.script_text.specs.Values as value_form;
 ghost use Rattle.script_text.specs.Forms as form;
+ghost use Rattle.script_text.specs.Table.{key_text};
 
 pub(crate) mod bases;
 pub(crate) mod post_lines;
 pub(crate) mod values;
 
-use class_config::{ClassRefusal, ClassTable, has_keys};
+use crate::causes::Key;
+use crate::table::{Form, form_of, has_form};
+use class_config::{ClassRefusal, ClassTable};
 use nav_types::limits::MAX_CALLERS;
 use nav_types::{NoMemory, Size};
 use posts::{BaseRects, MapSpec, Post};
@@ -32,17 +35,17 @@ pub(crate) const NEWEST_VERSION: u64 = 3;
 pub(crate) fn map_of(alloc: Global, value: &Value) -> Result<Option<MapSpec>, NoMemory>
     ensures { IfOk result (λ made. made ≡ form.map_of (view value.now)) }
 {
-    if !has_keys(value, &["version", "size", "callers", "classes"]) {
+    if !has_form(NEWEST_VERSION as u8, value, Form::Map) {
         return Ok(None);
     }
     let (Some(version), Some(size), Some(callers)) = (
-        values::whole_under(1, NEWEST_VERSION, value, "version"),
-        values::size_under(value, "size"),
-        values::whole_under(1, u64::from(MAX_CALLERS), value, "callers"),
+        values::whole_under(1, NEWEST_VERSION, value, Key::Version),
+        values::size_under(value, Key::Size),
+        values::whole_under(1, u64::from(MAX_CALLERS), value, Key::Callers),
     ) else {
         return Ok(None);
     };
-    let Some(classes) = classes_under(alloc, value, "classes")? else {
+    let Some(classes) = classes_under(alloc, value, Key::Classes)? else {
         return Ok(None);
     };
     let base = BaseRects::new(alloc);
@@ -53,11 +56,11 @@ pub(crate) fn map_of(alloc: Global, value: &Value) -> Result<Option<MapSpec>, No
 pub(crate) fn classes_under(
     alloc: Global,
     value: &Value,
-    key: &str,
+    key: Key,
 ) -> Result<Option<ClassTable>, NoMemory>
-    ensures { IfOk result (λ made. made ≡ value_form.under classes_of key.now (view value.now)) }
+    ensures { IfOk result (λ made. made ≡ value_form.under classes_of (key_text key) (view value.now)) }
 {
-    let Some(found) = value.get(key) else {
+    let Some(found) = value.get(key.as_str()) else {
         return Ok(None);
     };
     match ClassTable::read(alloc, found) {
@@ -77,10 +80,10 @@ pub(crate) fn base_of(
     ensures rects { IfOk result (λ made. made ≡ form.base_of size (view value.now)) }
     ensures inside { IfOk result (λ made. IfSome made (All (λ entry. IsRectInside size entry.0))) }
 {
-    if !has_keys(value, &["base"]) {
+    if !has_form(NEWEST_VERSION as u8, value, Form::Base) {
         return Ok(None);
     }
-    match values::items_under(value, "base") {
+    match values::items_under(value, Key::Base) {
         Some(items) => bases::entries_of(alloc, size, items),
         None => Ok(None),
     }
@@ -92,18 +95,14 @@ pub(crate) fn post_of(version: u8, callers: u8, value: &Value) -> Option<CallerP
     ensures post { result ≡ form.post_of version callers (view value.now) }
     ensures caller { IfSome result (λ said. said.caller < callers) }
 {
-    let Some(caller) = values::caller_under(callers, value, "caller") else {
+    let Some(caller) = values::caller_under(callers, value, Key::Caller) else {
         return None;
     };
-    if let Some(edit) = post_lines::edit_of(version, value) {
-        let post = Post::Edit(edit);
-        return Some(CallerPost { caller, post });
-    }
-    match post_lines::request_of(version, value) {
-        Some(request) => {
-            let post = Post::Ask(request);
-            Some(CallerPost { caller, post })
-        }
+    let Some(form) = form_of(version, value) else {
+        return None;
+    };
+    match post_lines::post_in(version, value, form) {
+        Some(post) => Some(CallerPost { caller, post }),
         None => None,
     }
 }
@@ -113,8 +112,8 @@ pub(crate) fn post_of(version: u8, callers: u8, value: &Value) -> Option<CallerP
 pub(crate) fn end_of(value: &Value) -> Option<u64>
     ensures { result ≡ form.end_of (view value.now) }
 {
-    if has_keys(value, &["end"]) {
-        value.get("end").and_then(Value::as_u64)
+    if has_form(NEWEST_VERSION as u8, value, Form::End) {
+        value.get(Key::End.as_str()).and_then(Value::as_u64)
     } else {
         None
     }

@@ -5,11 +5,12 @@ ghost use Rattle.serde_json.specs.Written.{compact_text};
 ghost use Rattle.goal_shapes.specs.declared.goals.GoalSpec.TheVariants as goal_spec;
 ghost use Rattle.script_text.specs.Canon.{goal_json, shape_json};
 ghost use Rattle.script_text.specs.Goals as goals;
+ghost use Rattle.script_text.specs.Table as table;
 ghost use Rattle.script_text.specs.ReadsBack.{AreFixed, IsGoalValue};
 ghost use Rattle.script_text.specs.Values.{under};
 
 use crate::canon::pieces::{Piece, decimals_of, push_decimals, push_pieces};
-use crate::causes::wrong_values::{Field, wrong};
+use crate::causes::wrong_values::{FormField, wrong};
 use crate::causes::{Cause, Key, Wanted};
 use crate::forms::values::{
     decimal_at, has_items, number_at, point_under, rectangle_under, round_under,
@@ -35,7 +36,7 @@ pub enum GoalKey {
 impl GoalKey {
     /// The key as it stands in a line.
     pub fn as_str(self) -> &'static str
-        ensures { result.now ≡ goals.goal_key_text self }
+        ensures { result.now ≡ table.goal_key_text self }
     {
         match self {
             GoalKey::Point => "point",
@@ -49,7 +50,7 @@ impl GoalKey {
 
     /// Its bytes.
     fn as_bytes(self) -> &'static [u8]
-        ensures { result.now ≡ goals.goal_key_text self }
+        ensures { result.now ≡ table.goal_key_text self }
     {
         self.as_str().as_bytes()
     }
@@ -74,10 +75,10 @@ pub(crate) fn goal_of(version: u8, value: &Value) -> Option<GoalSpec>
 }
 
 /// The goal under a key.
-pub(crate) fn goal_under(version: u8, value: &Value, key: &str) -> Option<GoalSpec>
-    ensures { result ≡ under (goals.goal_of version) key.now (view value.now) }
+pub(crate) fn goal_under(version: u8, value: &Value, key: Key) -> Option<GoalSpec>
+    ensures { result ≡ under (goals.goal_of version) (table.key_text key) (view value.now) }
 {
-    match value.get(key) {
+    match value.get(key.as_str()) {
         Some(found) => goal_of(version, found),
         None => None,
     }
@@ -89,15 +90,23 @@ fn plain_goal(value: &Value) -> Option<Goal>
     ensures { result ≡ goals.plain_goal (view value.now) }
 {
     if has_keys(value, &["point"]) {
-        point_under(value, "point").map(|(x, z)| Goal::Point { x, z })
+        point_under(value, Key::OfGoal(GoalKey::Point)).map(|(x, z)| Goal::Point { x, z })
     } else if has_keys(value, &["circle"]) {
-        round_under(value, "circle").map(|(x, z, r)| Goal::Circle { x, z, r })
+        round_under(value, Key::OfGoal(GoalKey::Circle)).map(|(x, z, r)| Goal::Circle { x, z, r })
     } else if has_keys(value, &["not-circle"]) {
-        round_under(value, "not-circle").map(|(x, z, r)| Goal::NotCircle { x, z, r })
+        round_under(value, Key::OfGoal(GoalKey::NotCircle)).map(|(x, z, r)| Goal::NotCircle {
+            x,
+            z,
+            r,
+        })
     } else if has_keys(value, &["square"]) {
-        rectangle_under(value, "square").map(|rectangle| Goal::Square(rectangle))
+        rectangle_under(value, Key::OfGoal(GoalKey::Square)).map(|rectangle| Goal::Square(
+            rectangle,
+        ))
     } else if has_keys(value, &["not-square"]) {
-        rectangle_under(value, "not-square").map(|rectangle| Goal::NotSquare(rectangle))
+        rectangle_under(value, Key::OfGoal(GoalKey::NotSquare)).map(|rectangle| Goal::NotSquare(
+            rectangle,
+        ))
     } else {
         None
     }
@@ -130,14 +139,14 @@ fn grown_of(value: &Value) -> Option<GoalSpec>
 }
 
 /// The obstruction number and the decimal of the array under a key.
-pub(crate) fn grown_under(value: &Value, key: &str) -> Option<GoalSpec>
-    ensures { result ≡ under goals.grown_of key.now (view value.now) }
+pub(crate) fn grown_under(value: &Value, key: Key) -> Option<GoalSpec>
+    ensures { result ≡ under goals.grown_of (table.key_text key) (view value.now) }
 {
-    value.get(key).and_then(grown_of)
+    value.get(key.as_str()).and_then(grown_of)
 }
 
 /// The cause of a goal that is none in a script of this version.
-pub(crate) fn wrong_goal(version: u8, field: Field, goal: &Value) -> Cause
+pub(crate) fn wrong_goal(version: u8, field: FormField, goal: &Value) -> Cause
     ensures { result ≡ goals.wrong_goal version field (view goal.now) }
 {
     if has_keys(goal, &["point"]) {
@@ -205,7 +214,7 @@ fn push_plain_goal(text: &mut Bytes, goal: Goal) -> Result<(), NoMemory>
 
 /// Appends an object of this key and of fixed-point numbers.
 fn push_shape(text: &mut Bytes, key: GoalKey, numbers: &[Fixed]) -> Result<(), NoMemory>
-    ensures text { OnOk result (text.new ≡ text.old ++ compact_text (shape_json (goals.goal_key_text key) numbers.now)) }
+    ensures text { OnOk result (text.new ≡ text.old ++ compact_text (shape_json (table.goal_key_text key) numbers.now)) }
     ensures values { OnOk result (AreFixed numbers.now) }
 {
     let pieces = [

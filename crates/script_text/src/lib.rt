@@ -22,6 +22,7 @@ mod parts;
 mod progress;
 mod pushed;
 mod reader;
+mod table;
 mod versions;
 
 pub use canon::{write_journal, write_map};

@@ -16,7 +16,7 @@ const BLOCK: usize = 32;
 
 /// Where the second look along a line stands.
 #[derive(Clone, Copy)]
-enum Standing {
+enum StringState {
     Outside,
     InString,
     BehindBackslash,
@@ -34,7 +34,7 @@ pub(crate) fn is_shallow(line: &[u8]) -> bool
 
 /// Where the first look stands, between two blocks.
 #[derive(Clone, Copy)]
-struct Place {
+struct BlockState {
     /// Whether a string goes on here.
     in_string: bool,
     /// How many arrays and objects are open here at most.
@@ -45,7 +45,7 @@ struct Place {
 fn is_shallow_by_blocks(line: &[u8]) -> bool
     ensures { result ≡ true → nest.is_shallow line.now ≡ true }
 {
-    let mut place = Place {
+    let mut place = BlockState {
         in_string: false,
         depth: 0,
     };
@@ -79,7 +79,7 @@ fn deepest(depth: u8, opened: u8) -> Option<u8>
 /// The place behind a block, none where its counts alone don't tell that no more than `MAX_NESTING` are open in it: from
 /// that place on, no bytes lead deeper than they do from this place on, over the block.
 #[inline(always)]
-fn behind(place: Place, block: &[u8]) -> Option<Place>
+fn behind(place: BlockState, block: &[u8]) -> Option<BlockState>
     requires { length block.now ≤ 255 }
     ensures { IfSome result (λ next. (rest : List ℕ) → blocks.fits_from next.in_string next.depth rest ≡ true
         → blocks.fits_from place.in_string place.depth (block.now ++ rest) ≡ true) }
@@ -87,7 +87,7 @@ fn behind(place: Place, block: &[u8]) -> Option<Place>
     let counts = counts_of(block);
     let most = deepest(place.depth, counts.opened)?;
     if !place.in_string && counts.quotes == 0 {
-        return Some(Place {
+        return Some(BlockState {
             in_string: false,
             depth: counts.opened + place.depth.saturating_sub(counts.closed),
         });
@@ -96,7 +96,7 @@ fn behind(place: Place, block: &[u8]) -> Option<Place>
     if counts.backslashes > 0 {
         return None;
     }
-    Some(Place {
+    Some(BlockState {
         in_string: turned(place.in_string, counts.quotes),
         depth: most,
     })
@@ -162,12 +162,12 @@ fn one_where(test: bool) -> u8
 fn is_shallow_by_bytes(line: &[u8]) -> bool
     ensures { result ≡ nest.is_shallow line.now }
 {
-    let mut standing = Standing::Outside;
+    let mut standing = StringState::Outside;
     let mut depth: u8 = 0;
     for byte in line {
         let byte = *byte;
         match standing {
-            Standing::Outside => {
+            StringState::Outside => {
                 if opens(byte) {
                     if depth >= MAX_NESTING {
                         return false;
@@ -176,17 +176,17 @@ fn is_shallow_by_bytes(line: &[u8]) -> bool
                 } else if closes(byte) {
                     depth = depth.saturating_sub(1);
                 } else if byte == b'"' {
-                    standing = Standing::InString;
+                    standing = StringState::InString;
                 }
             }
-            Standing::InString => {
+            StringState::InString => {
                 if byte == b'"' {
-                    standing = Standing::Outside;
+                    standing = StringState::Outside;
                 } else if byte == b'\\' {
-                    standing = Standing::BehindBackslash;
+                    standing = StringState::BehindBackslash;
                 }
             }
-            Standing::BehindBackslash => standing = Standing::InString,
+            StringState::BehindBackslash => standing = StringState::InString,
         }
     }
     true

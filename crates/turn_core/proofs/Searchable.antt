@@ -10,7 +10,7 @@ use Rattle.goal_shapes.specs.inner.Framing.{contains_framed}
 use Rattle.goal_reach.specs.declared.targets.Target.{Target}
 use Rattle.goal_reach.specs.declared.targets.Target.TheVariants.{Goal as GoalTarget, Near}
 use Rattle.goal_reach.specs.Targets.{hit_by, framed_by, IsSoundTarget}
-use Rattle.landmarks.specs.declared.spans.Span.{Span}
+use Rattle.landmarks.specs.declared.spans.NumberSpan.{NumberSpan}
 use Rattle.landmarks.specs.Landmarks.{Tables}
 use Rattle.landmarks.specs.Spans.{IsSpanned, IsSpanOf}
 use Rattle.landmarks.proofs.Spanning.{span_of_spans}
@@ -77,7 +77,7 @@ one_cell rect only cell is within =
     ap (λ (n : ℕ). cell_at n only.j) i ∙ ap (λ (n : ℕ). cell_at cell.i n) j
 
 -- where a target's rectangle has but one cell, the span of that cell spans what the target hits
-pub spans_hits : (state : MapState) (class : ℕ) (target : Target) (rect : Rect) (tables : Tables) (span : Span) (only : Cell)
+pub spans_hits : (state : MapState) (class : ℕ) (target : Target) (rect : Rect) (tables : Tables) (span : NumberSpan) (only : Cell)
     → IsFrame (framed_by target) state.map.size rect → IsOnlyCell rect only → IsSpanOf tables only span
     → (cell : Cell) → IsTrue (passes_of state class cell) → IsTrue (hit_by target cell) → IsSpanned tables span cell
 spans_hits state class target rect tables span only frame is of cell passing hit =

@@ -80,9 +80,9 @@ pub use jump_search::Pool;
 pub use named_goals::goal_of;
 pub use one_threads::OneThread;
 pub use posts::{
-    AllReplies, Answer, Answers, CallerReplies, Copied, FlowLine, FlowSummary, Jobs, Journal, Note,
-    Noted, Notes, PathAnswer, Post, Posts, RegionAnswer, Replies, Reply, Report, Request,
-    TurnPosts, TurnReplies, count_posts, empty_lists, push_post,
+    AllReplies, Answer, Answers, CallerReplies, FlowLine, FlowSummary, Jobs, Journal, Note, Noted,
+    Notes, PathAnswer, Post, Posts, RegionAnswer, Replies, Reply, Report, Request, TurnPosts,
+    TurnReplies, count_posts, empty_lists, push_post,
 };
 pub use ready_turns::{AnsweredTurn, ReadyTurn};
 pub use reports::REPORTS;

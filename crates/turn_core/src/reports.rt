@@ -8,7 +8,7 @@ ghost use Rattle.turn_core.specs.Notes.{IsFlowLine, IsOpenedNumber};
 ghost use Rattle.turn_core.specs.inner.Searching.{CanFind, IsFoundTo, IsKeptOn, IsNotedPath, path_by};
 
 use crate::last_fields::{LastField, field_for};
-use crate::searches::{NotedPath, Search};
+use crate::searches::{NotedPath, TargetSearch};
 use grid_versions::Version;
 use jump_search::{JumpSearch, Pool, Traced};
 use line_smooth::smooth;
@@ -25,7 +25,7 @@ pub const REPORTS: [Report; 4] = [
     Report::Smoothed,
 ];
 
-impl<'a> Search<'a> {
+impl<'a> TargetSearch<'a> {
     /// The path of the chosen walk, by the room of the pool, and what the report tells of it. The last flow field is kept.
     pub(crate) fn noted(
         &self,

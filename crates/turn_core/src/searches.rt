@@ -10,7 +10,7 @@ ghost use Rattle.turn_core.specs.inner.Searching.{CanFind, IsFoundTo, IsMarkedFo
 use class_planes::PlaneRuns;
 use goal_reach::{Target, room_in};
 use grid_versions::Version;
-use jump_search::{Ahead, Guided, JumpSearch, Marked, Pool, Question};
+use jump_search::{Guided, JumpSearch, Marked, Pool, Question, TargetEstimate};
 use nav_types::{Aim, Cell, Class, NoMemory, Rect, View};
 use posts::{Note, PathAnswer};
 use std::alloc::Global;
@@ -25,14 +25,14 @@ pub(crate) struct NotedPath {
 
 /// A search on a version for the chosen walk of a class from a start cell to a target.
 #[derive(Drop)]
-pub(crate) struct Search<'a> {
+pub(crate) struct TargetSearch<'a> {
     pub version: &'a Version,
     pub class: Class,
     pub start: Cell,
     pub target: &'a Target,
 }
 
-impl<'a> Search<'a> {
+impl<'a> TargetSearch<'a> {
     /// The chosen walk, by the room of the pool. What the search has opened is noted in the version.
     pub(crate) fn find(&self, alloc: Global, pool: &mut Pool) -> Result<Found, NoMemory>
         requires { CanFind self.now.version.now self.now.class self.now.start self.now.target.now }
@@ -62,16 +62,16 @@ impl<'a> Search<'a> {
 
     /// What the search goes by where it knows more than octile distances: the way out of the room that the goal leaves about
     /// the start, or tables of landmarks.
-    fn ahead(&self) -> Option<Ahead<'a>>
+    fn ahead(&self) -> Option<TargetEstimate<'a>>
         requires { CanFind self.now.version.now self.now.class self.now.start self.now.target.now }
         ensures { IfSome result (λ ahead. IsEstimate (passes_of self.now.version.now self.now.class) (hit_by self.now.target.now)
             (framed_by self.now.target.now) self.now.version.now.map.size (least_ahead ahead)) }
     {
         if let Some(rect) = self.room() {
-            return Some(Ahead::Leaving(rect));
+            return Some(TargetEstimate::Leaving(rect));
         }
         let marked = self.marked()?;
-        Some(Ahead::Past(marked))
+        Some(TargetEstimate::Past(marked))
     }
 
     /// What the version's tables of landmarks tell of the way to the target. None where the class has no tables, and where

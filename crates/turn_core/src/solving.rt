@@ -18,7 +18,7 @@ ghost use Rattle.turn_core.specs.inner.Searching.{CanFind, IsNotedPath};
 
 use crate::last_fields::LastField;
 use crate::named_goals::goal_of;
-use crate::searches::{NotedPath, Search};
+use crate::searches::{NotedPath, TargetSearch};
 use class_config::ClassName;
 use fixed_point::Fixed;
 use goal_reach::{Target, made_reachable, nearest_passable};
@@ -229,7 +229,7 @@ impl<'a> Solver<'a> {
         ensures path { IfOk result (IsNotedPath self.old.state self.old.report class start target.now) }
         ensures same { self.new ≡ self.old }
     {
-        let search = Search {
+        let search = TargetSearch {
             version: self.version,
             class,
             start,

@@ -184,7 +184,7 @@ impl Machine {
         ensures ok { IfOk result (λ handed. Effect self.old (Event.Post caller post.now) handed self.new) }
         ensures err { OnErr result (self.new ≡ self.old) }
     {
-        push_post(&mut self.posted, usize::from(caller), post.copy())?;
+        push_post(&mut self.posted, usize::from(caller), *post)?;
         Ok(None)
     }
 

@@ -1,3 +1,4 @@
+//! A walk, its waypoints, and what a search found.
 use nav_types::{Cell, Cost, Dir, Sequence};
 
 /// A walk, as the list of its directions.

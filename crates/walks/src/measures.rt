@@ -1,3 +1,4 @@
+//! The cost, the waypoints and the end of a walk.
 ghost use Rattle.std.specs.Prelude.{◌≡◌, ◌≤◌, ◌^◌, length, IfOk};
 ghost use Rattle.nav_types.specs.Walks.{walk_cost};
 ghost use Rattle.walks.specs.Waypoints.{StaysInGrid, IsInGrid, cell_after, is_corner, waypoints};

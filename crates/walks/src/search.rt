@@ -1,3 +1,4 @@
+//! The plain search, whose walk all others give.
 ghost use Rattle.std.specs.Prelude.{ℕ, Bool, List, ◌≡◌, ◌<◌, IsTrue, IfOk};
 ghost use Rattle.nav_types.specs.declared.cells.Cell.{Cell};
 ghost use Rattle.walks.specs.Chosen.{IsAnswer};

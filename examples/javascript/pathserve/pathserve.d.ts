@@ -86,14 +86,18 @@ export interface MapOfMatch {
   base?: { i0: number; j0: number; i1: number; j1: number; mask: number }[];
 }
 
+/** The words of the program that answer a script, each at its number. */
+export const REPORTS: readonly Report[];
+export type Report = "replay" | "profile" | "flow" | "smooth";
+
 /** The library of the file `pathserve.wasm` beside this one, or of another place, of bytes, or of a module. */
 export function load(source?: string | URL | ArrayBuffer | ArrayBufferView | WebAssembly.Module): Promise<Library>;
 
 /** An instance of the library, with a memory of its own. */
 export class Library {
   constructor(instance: WebAssembly.Instance);
-  /** A match by the text of its script, as the program plays it with the word `replay`, `profile`, `flow` or `smooth`. */
-  textMatch(report?: "replay" | "profile" | "flow" | "smooth"): TextMatch;
+  /** A match by the text of its script, as the program plays it with one of the words `REPORTS`. */
+  textMatch(report?: Report): TextMatch;
   /** A match on a map, whose turns are posts. */
   postedMatch(map: MapOfMatch): PostedMatch;
   /** The memory of searches, for views of any match of this library. */

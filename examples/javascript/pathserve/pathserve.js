@@ -12,7 +12,8 @@
 // memory is not collected.
 
 const VERSION = [0, 1], ANSWERS = 2;
-const REPORTS = ["replay", "profile", "flow", "smooth"];
+/** The words of the program that answer a script, each at its number. */
+export const REPORTS = Object.freeze(["replay", "profile", "flow", "smooth"]);
 
 /** The side of a navcell: coordinates and lengths are whole numbers. */
 export const NAVCELL = 65536;
@@ -272,7 +273,7 @@ export class Library {
     return far;
   }
 
-  /** A match by the text of its script, as the program plays it with the word `replay`, `profile`, `flow` or `smooth`. */
+  /** A match by the text of its script, as the program plays it with one of the words `REPORTS`. */
   textMatch(report = "replay") {
     return new TextMatch(this, report);
   }

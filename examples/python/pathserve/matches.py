@@ -26,7 +26,7 @@ class _Match(Owner):
 
 
 class TextMatch(_Match):
-    """A match by the text of its script, as the program plays it with the words `replay`, `profile`, `flow` or `smooth`."""
+    """A match by the text of its script, as the program plays it with one of the words `REPORTS`."""
 
     def __init__(self, report: str = "replay") -> None:
         super().__init__()

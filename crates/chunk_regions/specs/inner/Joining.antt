@@ -6,7 +6,7 @@ use Rattle.nav_types.specs.declared.cells.Chunk.{Chunk}
 use Rattle.nav_types.specs.Cells.{IsBefore}
 use Rattle.nav_types.specs.Counting.{HasNumber, AreFirsts}
 use Rattle.nav_types.specs.Regions.{JoinedStraight}
-use Rattle.chunk_regions.specs.declared.flood.Place.{Place}
+use Rattle.chunk_regions.specs.declared.label_spans.Place.{Place}
 use Rattle.chunk_regions.specs.declared.spans.Span.{Span}
 use Rattle.chunk_regions.specs.inner.Spans.{Runs, IsPlace, IsCut, HasCell}
 

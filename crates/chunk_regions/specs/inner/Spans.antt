@@ -7,7 +7,7 @@ use Rattle.nav_types.specs.declared.cells.Chunk.{Chunk}
 use Rattle.nav_types.specs.declared.cells.Rect.{Rect}
 use Rattle.nav_types.specs.Numbering.{columns, rows}
 use Rattle.chunk_regions.specs.declared.spans.Span.{Span}
-use Rattle.chunk_regions.specs.declared.flood.Place.{Place}
+use Rattle.chunk_regions.specs.declared.label_spans.Place.{Place}
 
 -- the place of the first span of each row and the count of all spans, and the spans of all rows
 pub record Runs : Type 0 where

@@ -79,7 +79,7 @@ pub record OpensFirst (left right : ℕ → ℕ) (count : ℕ) : Type 0 where
   pub opens : (n : ℕ) × ((suc n ≡ count) × (opens_after left right n ≡ 1))
   pub shut : (n : ℕ) → suc n < count → opens_after left right n ≡ 0
 
--- the run along these bits goes so far: to the first opening, or to its last free place
+-- the run along these bits goes so far: to the first forced place, or to its last free place
 pub record GoesFar (mid left right : ℕ → ℕ) (far : Far) : Type 0 where
   pub free : (n : ℕ) → n ≤ far.count → mid n ≡ 1
   pub shut : (n : ℕ) → suc n < far.count → opens_after left right n ≡ 0

@@ -6,7 +6,7 @@ use Rattle.nav_types.specs.declared.cells.Size.{Size}
 use Rattle.nav_types.specs.declared.straights.Axis.{Axis}
 use Rattle.nav_types.specs.Cells.{IsInside, IsInRect}
 use Rattle.nav_types.specs.Lines.{place_on, line_on}
-use Rattle.goal_reach.specs.declared.rings.Block.{Block}
+use Rattle.goal_reach.specs.declared.rings.RingBlock.{RingBlock}
 
 -- the rectangle with so many columns and rows more on each side
 abbrev pub widened : ℕ → Rect → Rect
@@ -34,14 +34,14 @@ pub record IsInRun (axis : Axis) (line from end : ℕ) (cell : Cell) : Type 0 wh
   pub past : place_on axis cell < end
 
 -- the cell lies in the block
-pub record IsInBlock (block : Block) (cell : Cell) : Type 0 where
+pub record IsInBlock (block : RingBlock) (cell : Cell) : Type 0 where
   pub first_line : block.first_line ≤ line_on block.axis cell
   pub past_line : line_on block.axis cell < block.past_line
   pub from : block.from ≤ place_on block.axis cell
   pub end : place_on block.axis cell < block.end
 
 -- the block lies in a map of this size
-pub record IsBlockInside (size : Size) (block : Block) : Type 0 where
+pub record IsBlockInside (size : Size) (block : RingBlock) : Type 0 where
   pub lines : block.first_line ≤ block.past_line
   pub places : block.from ≤ block.end
   pub cells : (cell : Cell) → IsInBlock block cell → IsInside size cell

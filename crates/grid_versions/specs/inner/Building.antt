@@ -4,8 +4,8 @@ use Rattle.nav_types.specs.declared.cells.Cell.{Cell}
 use Rattle.nav_types.specs.declared.cells.Size.{Size}
 use Rattle.chunk_regions.specs.Labelling.{Labelling}
 use Rattle.nav_types.specs.Rects.{chunk_rect}
-use Rattle.region_edges.specs.declared.neighbours.Side.{Side}
-use Rattle.region_edges.specs.declared.neighbours.Side.TheVariants.{East, North}
+use Rattle.region_edges.specs.declared.neighbours.ChunkSide.{ChunkSide}
+use Rattle.region_edges.specs.declared.neighbours.ChunkSide.TheVariants.{East, North}
 use Rattle.region_edges.specs.Edges.{PassesInside}
 use Rattle.reach_sets.specs.declared.regions.RegionId.{RegionId}
 use Rattle.grid_versions.specs.Chunks.{chunk_count, chunk_place}
@@ -23,7 +23,7 @@ abbrev pub link_between : ℕ → ℕ → ℕ × ℕ → RegionId × RegionId
 link_between here there edge = (record { chunk = here; region = edge.0 }, record { chunk = there; region = edge.1 })
 
 -- the link is one of the listed edges on that side
-pub record IsSideLink (size : Size) (side : Side) (all : List (List (ℕ × ℕ))) (link : RegionId × RegionId) : Type 0 where
+pub record IsSideLink (size : Size) (side : ChunkSide) (all : List (List (ℕ × ℕ))) (link : RegionId × RegionId) : Type 0 where
   pub edges : List (ℕ × ℕ)
   pub at : slice_get all link.0.chunk ≡ Some edges
   pub listed : Contains edges (link.0.region, link.1.region)

@@ -4,8 +4,8 @@ use Rattle.nav_types.specs.declared.limits.TheConstants.{CHUNK_SIDE}
 use Rattle.nav_types.specs.declared.cells.Chunk.{Chunk}
 use Rattle.nav_types.specs.declared.cells.Size.{Size}
 use Rattle.nav_types.specs.Cells.{chunk_at}
-use Rattle.region_edges.specs.declared.neighbours.Side.{Side}
-use Rattle.region_edges.specs.declared.neighbours.Side.TheVariants.{East, North}
+use Rattle.region_edges.specs.declared.neighbours.ChunkSide.{ChunkSide}
+use Rattle.region_edges.specs.declared.neighbours.ChunkSide.TheVariants.{East, North}
 use Rattle.grid_versions.specs.Chunks.{chunk_columns}
 
 -- the chunk at a place
@@ -26,7 +26,7 @@ abbrev pub north_of : Chunk → Chunk
 north_of chunk = chunk_at chunk.ci (chunk.cj + 1)
 
 -- the neighbour on that side, which may lie outside the map
-abbrev pub neighbour_on : Side → Chunk → Chunk
+abbrev pub neighbour_on : ChunkSide → Chunk → Chunk
 neighbour_on East chunk = east_of chunk
 neighbour_on North chunk = north_of chunk
 

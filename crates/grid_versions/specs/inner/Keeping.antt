@@ -8,8 +8,8 @@ use Rattle.nav_types.specs.declared.cells.Size.{Size}
 use Rattle.nav_types.specs.Cells.{IsInRect}
 use Rattle.nav_types.specs.Rects.{IsPartOf, chunk_rect}
 use Rattle.nav_types.specs.Regions.{passes_in, HasRegion}
-use Rattle.region_edges.specs.declared.neighbours.Side.{Side}
-use Rattle.region_edges.specs.declared.neighbours.Side.TheVariants.{East, North}
+use Rattle.region_edges.specs.declared.neighbours.ChunkSide.{ChunkSide}
+use Rattle.region_edges.specs.declared.neighbours.ChunkSide.TheVariants.{East, North}
 use Rattle.grid_versions.specs.declared.dirty_parts.DirtyPart.{DirtyPart}
 use Rattle.grid_versions.specs.inner.ChunkLists.{chunk_numbered}
 
@@ -37,11 +37,11 @@ pub record IsKeptPart (before now : Cell → Bool) (size : Size) (part : DirtyPa
   pub same : SameRegions before now (chunk_numbered size part.place) (λ cell. IsInRect part.rect cell → ⊥)
 
 -- the cell is of its chunk's last column, or of its last row
-abbrev pub IsLastOn : Side → Cell → Type 0
+abbrev pub IsLastOn : ChunkSide → Cell → Type 0
 IsLastOn East cell = cell.i % CHUNK_SIDE + 1 ≡ CHUNK_SIDE
 IsLastOn North cell = cell.j % CHUNK_SIDE + 1 ≡ CHUNK_SIDE
 
 -- the cell is of its chunk's first column, or of its first row
-abbrev pub IsFirstOn : Side → Cell → Type 0
+abbrev pub IsFirstOn : ChunkSide → Cell → Type 0
 IsFirstOn East cell = cell.i % CHUNK_SIDE ≡ 0
 IsFirstOn North cell = cell.j % CHUNK_SIDE ≡ 0

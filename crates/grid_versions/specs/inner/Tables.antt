@@ -8,8 +8,8 @@ use Rattle.nav_types.specs.Cells.{chunk_of}
 use Rattle.nav_types.specs.Regions.{IsNextChunk, IsEdge}
 use Rattle.nav_types.specs.Numbering.{number_of}
 use Rattle.chunk_regions.specs.Labelling.{Labelling, AreLabels}
-use Rattle.region_edges.specs.declared.neighbours.Side.{Side}
-use Rattle.region_edges.specs.declared.neighbours.Side.TheVariants.{East, North}
+use Rattle.region_edges.specs.declared.neighbours.ChunkSide.{ChunkSide}
+use Rattle.region_edges.specs.declared.neighbours.ChunkSide.TheVariants.{East, North}
 use Rattle.region_edges.specs.Edges.{AreEdges}
 use Rattle.reach_sets.specs.declared.regions.RegionId.{RegionId}
 use Rattle.reach_sets.specs.AreaNumbers.{AreaNumbers, AreAreas}
@@ -63,7 +63,7 @@ AreAllLabels passes size all =
     AreOfChunks size (chunk_count size) (λ chunk labels. AreLabels passes size chunk labels) all
 
 -- the region edges of all chunks of a map to their neighbours on that side, in order
-abbrev pub AreAllEdges : Side → (Cell → Bool) → Size → List (List (ℕ × ℕ)) → Type 0
+abbrev pub AreAllEdges : ChunkSide → (Cell → Bool) → Size → List (List (ℕ × ℕ)) → Type 0
 AreAllEdges side passes size all =
     AreOfChunks size (chunk_count size) (λ chunk edges. AreEdges passes chunk (neighbour_on side chunk) edges) all
 

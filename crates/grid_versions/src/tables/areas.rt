@@ -1,3 +1,4 @@
+//! The areas that regions and edges make.
 ghost use Rattle.std.specs.Prelude.{Bool, IfOk};
 ghost use Rattle.std.specs.Arc.{arc_value};
 ghost use Rattle.nav_types.specs.declared.cells.Cell.{Cell};

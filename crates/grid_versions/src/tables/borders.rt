@@ -1,3 +1,4 @@
+//! The region edges across the borders of chunks.
 ghost use Rattle.std.specs.Prelude.{ℕ, Bool, IsTrue, IsFalse, ◌≡◌, ◌++◌, ◌<◌, ◌≤◌, ◌↔◌, ◌⊎◌, All, List, OnOk, IfOk, IfSome, map, length, Contains};
 ghost use Rattle.std.specs.Prelude.{slice_get, Some};
 ghost use Rattle.nav_types.specs.declared.cells.Cell.{Cell};
@@ -22,7 +23,7 @@ use chunk_regions::Labels;
 use nav_types::limits::CHUNK_SIDE;
 use nav_types::{NoMemory, Rect, Size};
 use reach_sets::{Links, RegionId};
-use region_edges::{Edges, Side, between};
+use region_edges::{ChunkSide, Edges, between};
 use shared_list::SharedList;
 use std::alloc::Global;
 
@@ -30,7 +31,7 @@ use std::alloc::Global;
 #[derive(Clone, Copy)]
 struct Border {
     place: u32,
-    side: Side,
+    side: ChunkSide,
 }
 
 /// The region edges of the chunk at a place to its neighbour on that side; none where the map has no such neighbour.
@@ -66,7 +67,7 @@ pub fn all_edges(
     alloc: Global,
     size: Size,
     labels: &SharedList<Labels>,
-    side: Side,
+    side: ChunkSide,
 ) -> Result<SharedList<Edges>, NoMemory>
     requires { IsLaidOut size labels.now }
     ensures { IfOk result (λ all. (passes : Cell → Bool) → PassesInside passes size
@@ -102,24 +103,24 @@ fn listed_part(parts: &[DirtyPart], place: u32) -> Option<Rect>
 }
 
 /// Whether a part of a chunk has cells of the chunk's last column, or of its last row.
-fn meets_last(part: Rect, side: Side) -> bool
+fn meets_last(part: Rect, side: ChunkSide) -> bool
     ensures { IsFalse result → (size : Size) (chunk : Chunk) → IsPartOf (chunk_rect size chunk) part
         → (cell : Cell) → IsLastOn side cell → IsInRect part cell → ⊥ }
 {
     match side {
-        Side::East => part.i1 % CHUNK_SIDE + 1 == CHUNK_SIDE,
-        Side::North => part.j1 % CHUNK_SIDE + 1 == CHUNK_SIDE,
+        ChunkSide::East => part.i1 % CHUNK_SIDE + 1 == CHUNK_SIDE,
+        ChunkSide::North => part.j1 % CHUNK_SIDE + 1 == CHUNK_SIDE,
     }
 }
 
 /// Whether a part of a chunk has cells of the chunk's first column, or of its first row.
-fn meets_first(part: Rect, side: Side) -> bool
+fn meets_first(part: Rect, side: ChunkSide) -> bool
     ensures { IsFalse result → (size : Size) (chunk : Chunk) → IsPartOf (chunk_rect size chunk) part
         → (cell : Cell) → IsFirstOn side cell → IsInRect part cell → ⊥ }
 {
     match side {
-        Side::East => part.i0 % CHUNK_SIDE == 0,
-        Side::North => part.j0 % CHUNK_SIDE == 0,
+        ChunkSide::East => part.i0 % CHUNK_SIDE == 0,
+        ChunkSide::North => part.j0 % CHUNK_SIDE == 0,
     }
 }
 
@@ -237,7 +238,7 @@ fn reconnect(
     made: &Relabelled<'_>,
     all: &mut SharedList<Edges>,
     changed: &Changed<'_>,
-    side: Side,
+    side: ChunkSide,
 ) -> Result<bool, NoMemory>
     requires labels { IsLaidOut size made.now.labels.now }
     requires each { length all.old ≡ chunk_count size }
@@ -267,7 +268,7 @@ pub fn next_edges(
     made: &Relabelled<'_>,
     before: &SharedList<Edges>,
     changed: &Changed<'_>,
-    side: Side,
+    side: ChunkSide,
 ) -> Result<(SharedList<Edges>, bool), NoMemory>
     requires labels { IsLaidOut size made.now.labels.now }
     requires each { length before.now ≡ chunk_count size }
@@ -310,7 +311,7 @@ fn push_side(
     links: &mut Links,
     size: Size,
     edges: &SharedList<Edges>,
-    side: Side,
+    side: ChunkSide,
 ) -> Result<(), NoMemory>
     requires { length edges.now ≤ chunk_count size }
     ensures { OnOk result ((link : RegionId × RegionId)
@@ -335,12 +336,12 @@ pub fn all_links(
     requires north { length north.now ≤ chunk_count size }
     ensures { IfOk result (λ links. (link : RegionId × RegionId)
         → Contains links link
-        ↔ (IsSideLink size Side.East east.now link ⊎ IsSideLink size Side.North north.now link)) }
+        ↔ (IsSideLink size ChunkSide.East east.now link ⊎ IsSideLink size ChunkSide.North north.now link)) }
 {
     // room for the links of most maps
     let room = 8 * chunks::count(size) as usize;
     let mut links = Links::from(Vec::with_capacity(alloc, room)?);
-    push_side(&mut links, size, east, Side::East)?;
-    push_side(&mut links, size, north, Side::North)?;
+    push_side(&mut links, size, east, ChunkSide::East)?;
+    push_side(&mut links, size, north, ChunkSide::North)?;
     Ok(links)
 }

@@ -1,3 +1,4 @@
+//! Chunks whose regions keep their numbers after an edit.
 ghost use Rattle.std.specs.Prelude.{◌≡◌, All, IfOk, IsTrue};
 ghost use Rattle.class_planes.specs.Planes.{is_passable};
 ghost use Rattle.grid_versions.specs.inner.Changing.{CoverPassable};

@@ -1,3 +1,4 @@
+//! The regions of each chunk, made anew where cells changed.
 ghost use Rattle.std.specs.Prelude.{Bool, ◌≡◌, ◌+◌, ◌<◌, ◌≤◌, OnOk, IfOk, IsTrue, length, map, cond, count_by, slice_get, Some};
 ghost use Rattle.lane_rows.specs.Rows.{has_class};
 ghost use Rattle.class_planes.specs.Planes.{is_passable};

@@ -1,3 +1,4 @@
+//! Counts of regions and of edges.
 ghost use Rattle.std.specs.Prelude.{◌≡◌, ◌^◌, ◌<◌, ◌≤◌, length, map, sum_by, IfOk, All};
 ghost use Rattle.nav_types.specs.declared.limits.TheConstants.{CHUNK_CELLS};
 

@@ -5,8 +5,8 @@ use Rattle.nav_types.specs.declared.cells.Cell.{Cell}
 use Rattle.nav_types.specs.declared.directions.Dir.{Dir}
 use Rattle.nav_types.specs.declared.directions.Dir.TheVariants.{N, E, S, W, NE, SE, SW, NW}
 use Rattle.jump_search.specs.declared.nodes.Node.{Node}
-use Rattle.jump_search.specs.declared.nodes.Standing.{Standing}
-use Rattle.jump_search.specs.declared.nodes.Standing.TheVariants.{Dearer, Known, New}
+use Rattle.jump_search.specs.declared.nodes.Lookup.{Lookup}
+use Rattle.jump_search.specs.declared.nodes.Lookup.TheVariants.{Dominated, Known, New}
 use Rattle.jump_search.specs.declared.states.JumpState.{JumpState}
 use Rattle.jump_search.specs.inner.Paged.{page_place, slot_of, cell_number}
 
@@ -93,8 +93,8 @@ abbrev pub IsAsCheap : List Node → Cell → ℕ → Type 0
 IsAsCheap nodes cell cost = (place : ℕ) × ((node : Node) × ((slice_get nodes place ≡ Some node)
     × ((node.state.cell ≡ cell) × (node.cost ≤ cost))))
 
--- how a state stands to the nodes: one of its cell costs less than the bound; or the node of a number has it; or none has
-abbrev pub IsStanding : List Node → JumpState → ℕ → Standing → Type 0
-IsStanding nodes state bound Dearer = HasCheaper nodes state.cell bound
-IsStanding nodes state bound (Known number) = HasState nodes state number
-IsStanding nodes state bound New = LacksState nodes state
+-- what is found of a state among the nodes: one of its cell costs less than the bound; or the node of a number has it; or none has
+abbrev pub IsLookup : List Node → JumpState → ℕ → Lookup → Type 0
+IsLookup nodes state bound Dominated = HasCheaper nodes state.cell bound
+IsLookup nodes state bound (Known number) = HasState nodes state number
+IsLookup nodes state bound New = LacksState nodes state

@@ -80,7 +80,7 @@ IsFollowedFrom all passes hit start nodes node = (state : JumpState) (run : ℕ)
     → IsNoted all passes hit start nodes state (node.cost + octile_between node.state.cell state.cell) run
 
 -- A search that has ended. Its bound is the cost of the answer: all nodes within it are opened, but for those that are
--- dearer than another of their cell, where the search is not for all. The end is the first in cell order of the cells
+-- dominated by another of their cell, where the search is not for all. The end is the first in cell order of the cells
 -- that are hit at this cost, and none is hit at less.
 pub record IsSearched (all : Bool) (passes hit : Cell → Bool) (start : Cell) (ahead : Cell → ℕ) (end : Cell) (bound : ℕ)
     (nodes : List Node) : Type 0 where

@@ -29,7 +29,7 @@ abbrev pub opened_count : List Node → ℕ
 opened_count nodes = count_by (λ (node : Node). node.opened) nodes
 
 -- The nodes that wait stand in the open list by their estimates, which have come up to `floor`. Each of the others is
--- opened, at an estimate within that, or is dearer than another of its cell where the search is not for all.
+-- opened, at an estimate within that, or is dominated by another of its cell where the search is not for all.
 pub record IsQueued (all : Bool) (ahead : Cell → ℕ) (floor : ℕ) (nodes : List Node) (queue : Queue) : Type 0 where
   pub waits : (number estimate : ℕ) → map.get queue number ≡ Some estimate
       → (node : Node) × ((slice_get nodes number ≡ Some node) × (IsFalse node.opened
@@ -48,7 +48,7 @@ pub record IsGoing (all : Bool) (passes hit : Cell → Bool) (start : Cell) (ahe
   pub costs : (number : ℕ) (node : Node) → slice_get nodes number ≡ Some node → node.cost ≤ most
   pub few : length nodes ≤ 2 ^ 32
 
--- one node for another of its state that is not dearer; an opened one stays so, at its cost
+-- one node for another of its state that is not dominated; an opened one stays so, at its cost
 pub record IsLaterNode (old new : Node) : Type 0 where
   pub same : new.state ≡ old.state
   pub cheap : new.cost ≤ old.cost
@@ -87,14 +87,14 @@ pub record Relaxes (ahead : Cell → ℕ) (node : Node) (old new : List Node) (b
       → floor ≤ estimate_of ahead node → node.cost ≤ most → HasOpenedParent passes hit old node
       → IsGoing all passes hit start ahead floor most new after
 
--- No entry leaves the open list but those of nodes that are dearer than another of their cell, where the search is not
+-- No entry leaves the open list but those of nodes that are dominated by another of their cell, where the search is not
 -- for all.
 pub record Drops (all : Bool) (nodes : List Node) (before after : Queue) : Type 0 where
   pub kept : (number estimate : ℕ) → map.get after number ≡ Some estimate → map.get before number ≡ Some estimate
   pub gone : (number estimate : ℕ) (node : Node) → map.get before number ≡ Some estimate → map.get after number ≡ None
       → slice_get nodes number ≡ Some node → IsFalse all × IsDearer nodes node
 
--- Noting a jump that leads to a node, after which nodes that are dearer than another of their cell may leave the open
+-- Noting a jump that leads to a node, after which nodes that are dominated by another of their cell may leave the open
 -- list, where the search is not for all.
 abbrev pub Settles : Bool → (Cell → ℕ) → Node → List Node → List Node → Queue → Queue → Type 0
 Settles all ahead node old new before after =
@@ -207,7 +207,7 @@ pub record IsHalted (all : Bool) (passes hit : Cell → Bool) (start : Cell) (ah
   pub passed : (number : ℕ) (node : Node) → slice_get nodes number ≡ Some node → IsTrue node.opened
       → IsTrue (hit node.state.cell) → floor ≤ node.cost
 
--- A search that has opened every node, but for those that are dearer than another of their cell where it is not for
+-- A search that has opened every node, but for those that are dominated by another of their cell where it is not for
 -- all, and has met no cell that is hit.
 pub record IsExhausted (all : Bool) (passes hit : Cell → Bool) (start : Cell) (nodes : List Node) : Type 0 where
   pub met : AreMet passes hit start nodes

@@ -16,24 +16,24 @@ pub record AreWhole (tables : Tables) : Type 0 where
   pub long : length tables.numbers ≡ MAX_TABLES * spots tables.size
   pub most : tables.made ≤ MAX_TABLES
 
--- the marks are those of a map of this size, none above 65536, and each passable cell before that column of that row is
+-- the marks are those of a map of this size, none above 65535, and each passable cell before that column of that row is
 -- marked, as those of the rows before are
 pub record AreMarks (passes : Cell → Bool) (size : Size) (i j : ℕ) (marks : List ℕ) : Type 0 where
   pub long : length marks ≡ spots size
-  pub most : (spot : ℕ) → slice_index marks spot ≤ 65536
+  pub most : (spot : ℕ) → slice_index marks spot ≤ 65535
   pub marked : (cell : Cell) → IsTrue (passes cell) → ((cell.j < j) ⊎ ((cell.j ≡ j) × (cell.i < i)))
       → 0 < slice_index marks (spot_of size cell)
 
 -- marks changed only where there were some, and stay marks
 pub record Spreads (old new : List ℕ) : Type 0 where
   pub long : length new ≡ length old
-  pub most : ((spot : ℕ) → slice_index old spot ≤ 65536) → (spot : ℕ) → slice_index new spot ≤ 65536
+  pub most : ((spot : ℕ) → slice_index old spot ≤ 65535) → (spot : ℕ) → slice_index new spot ≤ 65535
   pub marked : (spot : ℕ) → 0 < slice_index old spot → 0 < slice_index new spot
 
--- the marks are few, and none is above 65536
+-- the marks are few, and none is above 65535
 pub record HasRoom (marks : List ℕ) : Type 0 where
   pub few : length marks < 2 ^ 32
-  pub most : (spot : ℕ) → slice_index marks spot ≤ 65536
+  pub most : (spot : ℕ) → slice_index marks spot ≤ 65535
 
 -- the place has one on each side
 pub record IsInner (width at : ℕ) (marks : List ℕ) : Type 0 where

@@ -4,10 +4,10 @@ use Rattle.nav_types.specs.declared.limits.TheConstants.{MAX_INPUT_BYTES}
 use Rattle.script_text.specs.Reader.{Held}
 use Rattle.script_text.specs.declared.faults.ScriptFault.{ScriptFault}
 use Rattle.script_text.specs.declared.faults.ScriptFault.TheVariants as met
-use Rattle.match_play.specs.declared.states.Ahead.{Ahead}
-use Rattle.match_play.specs.declared.states.Ahead.TheVariants as ahead
-use Rattle.match_play.specs.declared.states.Ground.{Ground}
-use Rattle.match_play.specs.declared.states.Course.{Course}
+use Rattle.match_play.specs.declared.states.NextItem.{NextItem}
+use Rattle.match_play.specs.declared.states.NextItem.TheVariants as next_item
+use Rattle.match_play.specs.declared.states.MatchProgress.{MatchProgress}
+use Rattle.match_play.specs.declared.states.MatchState.{MatchState}
 use Rattle.match_play.specs.declared.states.ScriptStop.{ScriptStop}
 use Rattle.match_play.specs.declared.states.ScriptStop.TheVariants.{BadLine, TooLong}
 use Rattle.match_play.specs.declared.faults.MatchFault.{MatchFault}
@@ -33,35 +33,35 @@ MayGoOn false held turns Fits = IsOpen held turns × Fits
 MayGoOn true held turns Fits = IsLast held turns Fits
 
 -- what stands fits the lines that come
-abbrev pub FitsLines : Bool → Ground → Held → Type 0
+abbrev pub FitsLines : Bool → MatchProgress → Held → Type 0
 FitsLines ended g held = MayGoOn ended held (turns_in g) (FitsPart g held.place.part)
 
 -- An item that waits fits, and what it makes of what stands fits the lines behind it.
-abbrev pub FitsAhead : Bool → Ground → Held → Ahead → Type 0
-FitsAhead ended g held ahead.Lines = FitsLines ended g held
-FitsAhead ended g held (ahead.Item i) = FitsItem g i × ((next : Ground) → Becomes g i next → FitsLines ended next held)
-FitsAhead ended g held (ahead.Stop stop) = ⊤
-FitsAhead ended g held (ahead.Nothing stop) = ⊤
-FitsAhead ended g held ahead.Whole = IsTrue ended
+abbrev pub FitsAhead : Bool → MatchProgress → Held → NextItem → Type 0
+FitsAhead ended g held next_item.Lines = FitsLines ended g held
+FitsAhead ended g held (next_item.Item i) = FitsItem g i × ((next : MatchProgress) → Becomes g i next → FitsLines ended next held)
+FitsAhead ended g held (next_item.Stop stop) = ⊤
+FitsAhead ended g held (next_item.Nothing stop) = ⊤
+FitsAhead ended g held next_item.Whole = IsTrue ended
 
-abbrev pub IsFit : Course → Type 0
-IsFit c = FitsAhead c.ended c.ground c.script c.ahead
+abbrev pub IsFit : MatchState → Type 0
+IsFit c = FitsAhead c.ended c.progress c.script c.next_item
 
 -- no stop was met
-abbrev pub IsGoing : Ahead → Type 0
-IsGoing ahead.Lines = ⊤
-IsGoing (ahead.Item item) = ⊤
-IsGoing (ahead.Stop stop) = ⊥
-IsGoing (ahead.Nothing stop) = ⊥
-IsGoing ahead.Whole = ⊥
+abbrev pub IsGoing : NextItem → Type 0
+IsGoing next_item.Lines = ⊤
+IsGoing (next_item.Item item) = ⊤
+IsGoing (next_item.Stop stop) = ⊥
+IsGoing (next_item.Nothing stop) = ⊥
+IsGoing next_item.Whole = ⊥
 
 -- a stop was met
-abbrev pub IsStopped : Ahead → Type 0
-IsStopped ahead.Lines = ⊥
-IsStopped (ahead.Item item) = ⊥
-IsStopped (ahead.Stop stop) = ⊤
-IsStopped (ahead.Nothing stop) = ⊤
-IsStopped ahead.Whole = ⊥
+abbrev pub IsStopped : NextItem → Type 0
+IsStopped next_item.Lines = ⊥
+IsStopped (next_item.Item item) = ⊥
+IsStopped (next_item.Stop stop) = ⊤
+IsStopped (next_item.Nothing stop) = ⊤
+IsStopped next_item.Whole = ⊥
 
 -- the refusal of a match that has stopped
 abbrev pub fault_of : ScriptStop → MatchFault
@@ -69,8 +69,8 @@ fault_of (BadLine n) = fault.BadLine n
 fault_of (TooLong n) = fault.TooLong n
 
 -- the stop was told, and is the refusal; or there was no memory
-abbrev pub TellsStop : Ahead → Result (Unit {0}) MatchFault → Type 0
-TellsStop next result = (result ≡ Err fault.NoMemory) ⊎ ((stop : ScriptStop) × ((next ≡ ahead.Nothing stop) × (result ≡ Err (fault_of stop))))
+abbrev pub TellsStop : NextItem → Result (Unit {0}) MatchFault → Type 0
+TellsStop next result = (result ≡ Err fault.NoMemory) ⊎ ((stop : ScriptStop) × ((next ≡ next_item.Nothing stop) × (result ≡ Err (fault_of stop))))
 
 -- the stop that a refusal of the script is, if it is one
 abbrev pub stop_in : ScriptFault → Option ScriptStop

@@ -17,20 +17,20 @@ use Rattle.path_service.specs.declared.runs.AnsweredRun.{AnsweredRun}
 use Rattle.path_service.specs.declared.drivers.Driver.TheInside.{Inside}
 use Rattle.path_service.specs.Services.{DriverState}
 use Rattle.path_service.specs.Closings.{HasSent}
-use Rattle.path_service.specs.inner.Ports.{posted_in, told_in, sent_in, ids_from, IsInRoom}
+use Rattle.path_service.specs.inner.Channels.{posted_in, told_in, sent_in, ids_from, IsInRoom}
 use Rattle.path_service.specs.inner.Running.{version_for_next, HoldsRunning}
 
--- how many of each list are before those in hand
+-- how many of each list are before the pending ones
 abbrev pub taken_before : List (List Post) → List (List Post) → List ℕ
-taken_before [] hands = []
-taken_before (posts ∷ posted) hands = (length posts - length (first_list hands)) ∷ taken_before posted (drop 1 hands)
+taken_before [] all_pending = []
+taken_before (posts ∷ posted) all_pending = (length posts - length (first_list all_pending)) ∷ taken_before posted (drop 1 all_pending)
 
--- what is in hand is the last of each list
+-- what is pending is the last of each list
 abbrev pub AreLast : List (List Post) → List (List Post) → Type 0
 AreLast [] [] = Unit {0}
-AreLast [] (hand ∷ hands) = ⊥
+AreLast [] (pending ∷ all_pending) = ⊥
 AreLast (posts ∷ posted) [] = ⊥
-AreLast (posts ∷ posted) (hand ∷ hands) = ((front : List Post) × (front ++ hand ≡ posts)) × AreLast posted hands
+AreLast (posts ∷ posted) (pending ∷ all_pending) = ((front : List Post) × (front ++ pending ≡ posts)) × AreLast posted all_pending
 
 -- the lists of each caller, followed by the replies to it in each turn
 abbrev pub told_up : List (List Reply) → List TurnReplies → List (List Reply)
@@ -50,10 +50,10 @@ run_of (Some run) broken = Some (answered_run run.posts run.answers.value)
 
 -- the state of the turn machine with these parts
 abbrev pub state_with : Map → List (List Post) → List (List Post) → Option (List (List Post)) → Option Run → List (List (List Post)) → List TurnReplies → State
-state_with m posted hands staged running journal all = record {
+state_with m posted all_pending staged running journal all = record {
   map = m;
   posted = posted;
-  taken = taken_before posted hands;
+  taken = taken_before posted all_pending;
   staged = staged;
   running = running;
   done = journal;
@@ -63,15 +63,15 @@ state_with m posted hands staged running journal all = record {
 
 -- the state of the turn machine that a driver stands for
 abbrev pub machine_of : Inside → State
-machine_of a = state_with a.map (posted_in a.ports.items) a.hands.items (turn_of a.staged) (run_of a.running a.broken) a.journal.items a.replies.items
+machine_of a = state_with a.map (posted_in a.channels.items) a.all_pending.items (turn_of a.staged) (run_of a.running a.broken) a.journal.items a.replies.items
 
 -- the driver that is seen
 abbrev pub driver_of : Inside → DriverState
 driver_of a = record {
   machine = machine_of a;
-  callers = ids_from 0 a.ports.items;
-  told = told_in a.ports.items;
-  sent = sent_in a.ports.items;
+  callers = ids_from 0 a.channels.items;
+  told = told_in a.channels.items;
+  sent = sent_in a.channels.items;
   failed = a.failed;
 }
 
@@ -99,7 +99,7 @@ pub record HoldsDriver (a : Inside) : Type 0 where
   pub running : HoldsRunning a.version a.running
   pub broken : HoldsBroken a.failed a.broken
   pub staged : a.failed ≡ false → HoldsStaged (version_for_next a.version a.running) a.staged
-  pub last : AreLast (posted_in a.ports.items) a.hands.items
-  pub few : post_count a.hands.items ≤ MAX_STAGED_POSTS
-  pub room : All IsInRoom a.ports.items
+  pub last : AreLast (posted_in a.channels.items) a.all_pending.items
+  pub few : post_count a.all_pending.items ≤ MAX_STAGED_POSTS
+  pub room : All IsInRoom a.channels.items
   pub sent : HasSent (driver_of a) a.replies.items

@@ -1,9 +1,9 @@
 -- The order in which jobs are drawn.
 use Rattle.std.specs.Prelude.{ℕ, List, map, slice_index}
-use Rattle.path_workers.specs.declared.ranking.Ranked.{Ranked}
+use Rattle.path_workers.specs.declared.ranking.RankedJob.{RankedJob}
 
 -- the number of a ranked job
-abbrev pub ranked_job : Ranked → ℕ
+abbrev pub ranked_job : RankedJob → ℕ
 ranked_job one = one.job
 
 -- the jobs that stand at these places of the order

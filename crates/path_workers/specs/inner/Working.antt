@@ -28,12 +28,12 @@ abbrev pub HasOneMore : Map → Standing → Report → List Request → ℕ →
 HasOneMore map standing report jobs job before after =
     (one : Answered) × ((after ≡ before ++ one ∷ []) × ((one.job ≡ job) × AnswersItsJob map standing report jobs one))
 
--- Workers have drawn places of the order on a seat: it is of the same board with the same credit. Where memory was not short
+-- Workers have drawn places of the order on a seat: it is of the same board with the same share. Where memory was not short
 -- it has ended, and the jobs at the places that it drew were answered.
 pub record HasWorked (map : Map) (standing : Standing) (report : Report) (jobs : List Request) (order : List ℕ) (seat : SeatState)
     (worked : Worked) : Type 0 where
   pub board : worked.seat.board ≡ seat.board
-  pub credit : worked.seat.credit ≡ seat.credit
+  pub share : worked.seat.share ≡ seat.share
   pub ended : OnOk worked.answered (worked.seat.ended ≡ true)
   pub numbers : IfOk worked.answered (λ answered. job_numbers answered ≡ jobs_at order worked.seat.drawn)
   pub answers : IfOk worked.answered (AnswerTheirJobs map standing report jobs)

@@ -15,7 +15,7 @@ use Rattle.posts.specs.declared.replies.Answer.TheVariants.{Path as IsPath}
 use Rattle.grid_versions.specs.Versions.{MapState, passes_of}
 use Rattle.turn_core.specs.NamedGoals.{class_named, goal_found}
 use Rattle.turn_core.specs.Solving.{IsAnswerTo}
-use Rattle.pathserve_c.specs.declared.fields.Answered.{Answered}
+use Rattle.pathserve_c.specs.declared.fields.FieldAnswer.{FieldAnswer}
 
 -- whether a request asks for a path
 abbrev pub asks_path : Request → Bool
@@ -58,7 +58,7 @@ HasField version request answer None = ⊤
 HasField version request answer (Some field) = ⊥
 
 -- the answer to a request, with its field where it is a path
-pub record IsAnsweredWith (version : MapState) (request : Request) (answered : Answered) : Type 0 where
+pub record IsAnsweredWith (version : MapState) (request : Request) (answered : FieldAnswer) : Type 0 where
   pub answers : IsAnswerTo version.map version.standing request answered.answer
   pub field : HasField version request answered.answer answered.field
 

@@ -1,6 +1,6 @@
 //! The keys of lines, and what must stand under them.
 ghost use Rattle.std.specs.Prelude.{◌≡◌};
-ghost use Rattle.script_text.specs.Causes.{key_text};
+ghost use Rattle.script_text.specs.Table.{key_text};
 
 use crate::goals::{GoalKey, goal_keys};
 use nav_types::Size;
@@ -64,7 +64,7 @@ impl Key {
 
 impl fmt::Display for Key {
     ghost use Rattle.std.specs.Prelude.{Some};
-    ghost use Rattle.script_text.specs.Causes.{key_text};
+    ghost use Rattle.script_text.specs.Table.{key_text};
 
     ghost output = { λ key. Some (key_text key) };
 

@@ -77,7 +77,7 @@ impl Mistake {
 
 /// Where a look along a line stands: outside strings, in a word outside them, in a string, or behind a backslash in one.
 #[derive(Clone, Copy)]
-pub(crate) enum Standing {
+pub(crate) enum LineState {
     Outside,
     InWord,
     InString,
@@ -87,7 +87,7 @@ pub(crate) enum Standing {
 /// What a look along a line has seen.
 #[derive(Clone, Copy)]
 pub(crate) struct Look {
-    standing: Standing,
+    standing: LineState,
     /// The last byte that is no white space, and a space where there was none.
     last: u8,
     /// How many arrays and objects are open.
@@ -99,7 +99,7 @@ pub(crate) fn broken_cause(line: &[u8]) -> Cause
     ensures { result ≡ slip.broken_cause line.now }
 {
     let mut look = Look {
-        standing: Standing::Outside,
+        standing: LineState::Outside,
         last: b' ',
         depth: 0,
     };
@@ -119,8 +119,8 @@ fn ending(look: Look) -> Cause
     ensures { result ≡ slip.ending look }
 {
     match look.standing {
-        Standing::InString | Standing::BehindBackslash => Cause::EndsInString,
-        Standing::Outside | Standing::InWord => {
+        LineState::InString | LineState::BehindBackslash => Cause::EndsInString,
+        LineState::Outside | LineState::InWord => {
             if look.depth > 0 {
                 Cause::EndsInValue
             } else {
@@ -144,29 +144,29 @@ fn behind(look: Look, byte: u8) -> Look
 }
 
 /// Where a look stands behind one more byte.
-fn standing_behind(standing: Standing, byte: u8) -> Standing
+fn standing_behind(standing: LineState, byte: u8) -> LineState
     ensures { result ≡ slip.standing_behind standing byte }
 {
     match standing {
-        Standing::Outside | Standing::InWord => {
+        LineState::Outside | LineState::InWord => {
             if byte == b'"' {
-                Standing::InString
+                LineState::InString
             } else if is_of_word(byte) {
-                Standing::InWord
+                LineState::InWord
             } else {
-                Standing::Outside
+                LineState::Outside
             }
         }
-        Standing::InString => {
+        LineState::InString => {
             if byte == b'"' {
-                Standing::Outside
+                LineState::Outside
             } else if byte == b'\\' {
-                Standing::BehindBackslash
+                LineState::BehindBackslash
             } else {
-                Standing::InString
+                LineState::InString
             }
         }
-        Standing::BehindBackslash => Standing::InString,
+        LineState::BehindBackslash => LineState::InString,
     }
 }
 
@@ -177,7 +177,7 @@ fn depth_behind(look: Look, byte: u8) -> u64
     ensures step { result ≤ look.depth + 1 }
 {
     match look.standing {
-        Standing::Outside | Standing::InWord => {
+        LineState::Outside | LineState::InWord => {
             if opens(byte) {
                 look.depth + 1
             } else if closes(byte) {
@@ -186,7 +186,7 @@ fn depth_behind(look: Look, byte: u8) -> u64
                 look.depth
             }
         }
-        Standing::InString | Standing::BehindBackslash => look.depth,
+        LineState::InString | LineState::BehindBackslash => look.depth,
     }
 }
 
@@ -195,16 +195,16 @@ fn mistake_at(look: Look, byte: u8) -> Option<Mistake>
     ensures { result ≡ slip.mistake_at look byte }
 {
     match look.standing {
-        Standing::Outside => mistake_outside(look, byte),
-        Standing::InWord => {
+        LineState::Outside => mistake_outside(look, byte),
+        LineState::InWord => {
             if is_of_word(byte) {
                 None
             } else {
                 mistake_outside(look, byte)
             }
         }
-        Standing::InString => where_true(is_control(byte), Mistake::Control),
-        Standing::BehindBackslash => where_true(!is_escape(byte), Mistake::Escape),
+        LineState::InString => where_true(is_control(byte), Mistake::Control),
+        LineState::BehindBackslash => where_true(!is_escape(byte), Mistake::Escape),
     }
 }
 

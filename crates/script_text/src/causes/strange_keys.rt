@@ -5,38 +5,13 @@ ghost use Rattle.std.specs.Map.{keys_of};
 ghost use Rattle.serde_json.specs.Find.{get};
 ghost use Rattle.serde_json.specs.View.{view};
 ghost use Rattle.script_text.specs.Causes as why;
+ghost use Rattle.script_text.specs.Table as table;
 
 use crate::causes::{Cause, Key};
 use crate::parts::Part;
-use crate::versions::{FIRST_WITH_MASKS, FIRST_WITH_MOVES};
+use crate::table::{Form, LINE_KEYS, is_among, widest};
 use class_config::ClassName;
 use serde_json::{Map, Value};
-
-/// The keys of lines.
-const LINE_KEYS: [Key; 19] = [
-    Key::Version,
-    Key::Size,
-    Key::Callers,
-    Key::Classes,
-    Key::Base,
-    Key::Caller,
-    Key::Add,
-    Key::Unit,
-    Key::Square,
-    Key::Mask,
-    Key::Remove,
-    Key::Move,
-    Key::To,
-    Key::Path,
-    Key::From,
-    Key::Goal,
-    Key::Region,
-    Key::At,
-    Key::End,
-];
-
-/// The keys of a map line.
-const MAP_KEYS: [Key; 4] = [Key::Version, Key::Size, Key::Callers, Key::Classes];
 
 /// The first key of an object that no form has, where it is of the form of a name.
 #[tactic(auto, unfolding(crate::specs::Causes::unknown_key))]
@@ -69,71 +44,68 @@ fn is_unknown(key: &str) -> bool
 
 /// Whether a form has the key.
 fn is_line_key(key: &str) -> bool
-    ensures { result ≡ list_any (λ one. bytes_eq key.now (why.key_text one)) why.line_keys }
+    ensures { result ≡ list_any (λ one. bytes_eq key.now (table.key_text one)) table.line_keys }
 {
     is_among(key, &LINE_KEYS)
 }
 
-/// The cause of a line whose keys are those of no form, and each of some form.
-pub(crate) fn unfit_cause(part: Part, value: &Value) -> Cause
-    ensures { result ≡ why.unfit_cause (why.named_keys part (view value.now)) (view value.now) }
+/// The form that a key of the value names: before the map line each of its keys names it.
+pub(crate) fn named_in(part: Part, value: &Value) -> Option<Form>
+    ensures { result ≡ why.named_in part (view value.now) }
 {
     match part {
         Part::BeforeMap => {
-            if has_any(&MAP_KEYS, value) {
-                unfit_to(&MAP_KEYS, value)
+            if has_any(Form::Map.keys(widest().version), value) {
+                Some(Form::Map)
             } else {
-                Cause::NoSuchForm
+                None
             }
         }
-        Part::InBase(rules) | Part::InTurns(rules) => unfit_post(rules.version, value),
+        Part::InBase(rules) | Part::InTurns(rules) => named_form(rules.version, value),
     }
 }
 
-/// The same of a line behind the map line.
-fn unfit_post(version: u8, value: &Value) -> Cause
-    ensures { result ≡ why.unfit_cause (why.named_later version (view value.now)) (view value.now) }
+/// The same behind the map line. Where no shape is there, that of an add line is the unit.
+fn named_form(version: u8, value: &Value) -> Option<Form>
+    ensures { result ≡ why.named_form version (view value.now) }
 {
-    if value.get("add").is_some() {
-        unfit_add(version, value)
-    } else if value.get("remove").is_some() {
-        unfit_to(&[Key::Caller, Key::Remove], value)
-    } else if version >= FIRST_WITH_MOVES && value.get("move").is_some() {
-        unfit_to(&[Key::Caller, Key::Move, Key::To], value)
-    } else if value.get("path").is_some() {
-        unfit_to(&[Key::Caller, Key::Path, Key::From, Key::Goal], value)
-    } else if value.get("region").is_some() {
-        unfit_to(&[Key::Caller, Key::Region, Key::At], value)
-    } else if value.get("base").is_some() {
-        unfit_to(&[Key::Base], value)
-    } else if value.get("end").is_some() {
-        unfit_to(&[Key::End], value)
+    if has_key(Key::Add, value) {
+        if has_key(Key::Square, value) {
+            Some(Form::AddSquare)
+        } else {
+            Some(Form::AddUnit)
+        }
+    } else if has_key(Key::Remove, value) {
+        Some(Form::Remove)
+    } else if Form::Move.stands_in(version) && has_key(Key::Move, value) {
+        Some(Form::Move)
+    } else if has_key(Key::Path, value) {
+        Some(Form::Path)
+    } else if has_key(Key::Region, value) {
+        Some(Form::Region)
+    } else if has_key(Key::Base, value) {
+        Some(Form::Base)
+    } else if has_key(Key::End, value) {
+        Some(Form::End)
     } else {
-        Cause::NoSuchForm
+        None
     }
 }
 
-/// The same of an add line. Where no shape is there, it is the unit.
-fn unfit_add(version: u8, value: &Value) -> Cause
-    ensures { result ≡ why.unfit_cause
-        (why.add_keys_named version (is_some (get (codes "square") (view value.now)))) (view value.now) }
+/// The cause of a line whose keys are those of no form, and each of some form, by the form that one names.
+pub(crate) fn unfit_cause(version: u8, named: Option<Form>, value: &Value) -> Cause
+    ensures { result ≡ why.unfit_cause version named (view value.now) }
 {
-    let shape = if value.get("square").is_some() {
-        Key::Square
-    } else {
-        Key::Unit
-    };
-    if version >= FIRST_WITH_MASKS {
-        unfit_to(&[Key::Caller, Key::Add, shape, Key::Mask], value)
-    } else {
-        unfit_to(&[Key::Caller, Key::Add, shape], value)
+    match named {
+        Some(form) => unfit_to(form.keys(version), value),
+        None => Cause::NoSuchForm,
     }
 }
 
-/// The cause of a line that is to have exactly these keys, at least one, and has not.
+/// The cause of a line that is to have exactly these keys, and has not.
 fn unfit_to(keys: &[Key], value: &Value) -> Cause
     ensures { result ≡ why.unfit_by (why.first_missing keys.now (view value.now))
-        (why.first_surplus why.line_keys keys.now (view value.now)) }
+        (why.first_surplus table.line_keys keys.now (view value.now)) }
 {
     if let Some(key) = first_missing(keys, value) {
         return Cause::MissingKey { key };
@@ -144,12 +116,19 @@ fn unfit_to(keys: &[Key], value: &Value) -> Cause
     }
 }
 
+/// Whether something stands under the key.
+fn has_key(key: Key, value: &Value) -> bool
+    ensures { result ≡ why.has_key key (view value.now) }
+{
+    value.get(key.as_str()).is_some()
+}
+
 /// Whether something stands under one of the keys.
 fn has_any(keys: &[Key], value: &Value) -> bool
     ensures { result ≡ why.has_any keys.now (view value.now) }
 {
     for key in keys {
-        if value.get(key.as_str()).is_some() {
+        if has_key(*key, value) {
             return true;
         }
     }
@@ -172,14 +151,7 @@ fn first_surplus(among: &[Key], keys: &[Key], value: &Value) -> Option<Key>
 fn is_surplus(key: Key, keys: &[Key], value: &Value) -> bool
     ensures { result ≡ why.is_surplus key keys.now (view value.now) }
 {
-    value.get(key.as_str()).is_some() && !is_among(key.as_str(), keys)
-}
-
-/// Whether the key is one of these.
-fn is_among(key: &str, keys: &[Key]) -> bool
-    ensures { result ≡ list_any (λ one. bytes_eq key.now (why.key_text one)) keys.now }
-{
-    keys.iter().any(|one| key == one.as_str())
+    has_key(key, value) && !is_among(key.as_str(), keys)
 }
 
 /// The first of these keys under which nothing stands.
@@ -187,7 +159,7 @@ fn first_missing(keys: &[Key], value: &Value) -> Option<Key>
     ensures { result ≡ why.first_missing keys.now (view value.now) }
 {
     for key in keys {
-        if value.get(key.as_str()).is_none() {
+        if !has_key(*key, value) {
             return Some(*key);
         }
     }

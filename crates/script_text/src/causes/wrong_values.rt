@@ -1,41 +1,29 @@
 //! The first value of a line that is not what it must be.
-ghost use Rattle.std.specs.Prelude.{◌≡◌, ◌∷◌, IfOk, is_some, map, option_and_then};
+ghost use Rattle.std.specs.Prelude.{◌≡◌, IfOk, is_some, map, option_and_then};
 ghost use Rattle.serde_json.specs.View.{view};
 ghost use Rattle.script_text.specs.Values.{under, array_items};
 ghost use Rattle.script_text.specs.Forms.{each, entry_of};
 ghost use Rattle.script_text.specs.Causes as why;
+ghost use Rattle.script_text.specs.Table.{key_text};
 
-use crate::causes::line_forms::Form;
 use crate::causes::{Cause, Key, Wanted};
 use crate::forms::values::{
     caller_under, items_under, name_under, point_under, rectangle_under, round_under, size_under,
     whole_under,
 };
-use crate::forms::{NEWEST_VERSION, bases, classes_under};
+use crate::forms::{bases, classes_under};
 use crate::goals::{goal_under, grown_under, wrong_goal};
 use crate::parts::Rules;
-use crate::versions::FIRST_WITH_MASKS;
-use nav_types::limits::MAX_CALLERS;
+use crate::table::Form;
 use nav_types::{NoMemory, Size};
 use serde_json::Value;
 use std::alloc::Global;
 
 /// A key of a form, and what must stand under it.
 #[derive(Clone, Copy)]
-pub struct Field {
+pub struct FormField {
     pub key: Key,
     pub wanted: Wanted,
-}
-
-/// The first wrong value of a map line.
-pub(crate) fn map_cause(alloc: Global, value: &Value) -> Result<Option<Cause>, NoMemory>
-    ensures { IfOk result (λ cause. cause ≡ why.first_wrong why.map_fields (view value.now)) }
-{
-    let version = whole(Key::Version, 1, NEWEST_VERSION);
-    let size = wants(Key::Size, Wanted::Sides);
-    let callers = whole(Key::Callers, 1, u64::from(MAX_CALLERS));
-    let classes = wants(Key::Classes, Wanted::Classes);
-    first_wrong(alloc, &[version, size, callers, classes], value)
 }
 
 /// The first wrong value of a line of this form, which stands among the lines of the turn of this number.
@@ -48,104 +36,41 @@ pub(crate) fn fields_cause(
 ) -> Result<Option<Cause>, NoMemory>
     ensures { IfOk result (λ cause. cause ≡ why.first_wrong (why.fields_of rules turn form) (view value.now)) }
 {
-    let callers = rules.callers;
-    let version = rules.version;
-    let caller = wants(Key::Caller, Wanted::Caller { callers });
-    match form {
-        Form::Map => map_cause(alloc, value),
-        Form::Base => {
-            let base = wants(Key::Base, Wanted::Rectangles { size: rules.size });
-            first_wrong(alloc, &[base], value)
-        }
-        Form::AddUnit => {
-            let unit = wants(Key::Unit, Wanted::ThreeDecimals);
-            add_cause(alloc, version, caller, unit, value)
-        }
-        Form::AddSquare => {
-            let square = wants(Key::Square, Wanted::SixDecimals);
-            add_cause(alloc, version, caller, square, value)
-        }
-        Form::Remove => first_wrong(alloc, &[caller, number(Key::Remove)], value),
-        Form::Move => {
-            let to = wants(Key::To, Wanted::TwoDecimals);
-            first_wrong(alloc, &[caller, number(Key::Move), to], value)
-        }
-        Form::Path => {
-            let class = wants(Key::Path, Wanted::ClassName);
-            let from = wants(Key::From, Wanted::TwoDecimals);
-            let goal = wants(Key::Goal, Wanted::Goal { version });
-            first_wrong(alloc, &[caller, class, from, goal], value)
-        }
-        Form::Region => {
-            let class = wants(Key::Region, Wanted::ClassName);
-            let at = wants(Key::At, Wanted::TwoDecimals);
-            first_wrong(alloc, &[caller, class, at], value)
-        }
-        Form::End => first_wrong(
-            alloc,
-            &[wants(Key::End, Wanted::Turn { number: turn })],
-            value,
-        ),
-    }
+    first_wrong(alloc, rules, turn, form.keys(rules.version), value)
 }
 
-/// The first wrong value of an add line with this shape.
-fn add_cause(
+/// The cause that the first of these keys gives under which not what is wanted stands. None where each is right.
+fn first_wrong(
     alloc: Global,
-    version: u8,
-    caller: Field,
-    shape: Field,
+    rules: Rules,
+    turn: u64,
+    keys: &[Key],
     value: &Value,
 ) -> Result<Option<Cause>, NoMemory>
-    ensures { IfOk result (λ cause. cause ≡ why.first_wrong (caller ∷ why.add_fields version shape) (view value.now)) }
+    ensures { IfOk result (λ cause. cause ≡ why.first_wrong (map (why.field_of rules turn) keys.now) (view value.now)) }
 {
-    let add = number(Key::Add);
-    if version >= FIRST_WITH_MASKS {
-        let mask = whole(Key::Mask, 0, u64::from(u16::MAX));
-        first_wrong(alloc, &[caller, add, shape, mask], value)
-    } else {
-        first_wrong(alloc, &[caller, add, shape], value)
-    }
-}
-
-/// A key and what must stand under it.
-fn wants(key: Key, wanted: Wanted) -> Field
-    ensures { result ≡ why.wants key wanted }
-{
-    Field { key, wanted }
-}
-
-/// A key with a whole number.
-fn whole(key: Key, least: u64, most: u64) -> Field
-    ensures { result ≡ why.wants key (Wanted.Whole least most) }
-{
-    wants(key, Wanted::Whole { least, most })
-}
-
-/// A key with an obstruction number.
-fn number(key: Key) -> Field
-    ensures { result ≡ why.number key }
-{
-    whole(key, 0, u64::from(u32::MAX))
-}
-
-/// The cause that the first field gives under whose key not what is wanted stands. None where each is right.
-fn first_wrong(alloc: Global, fields: &[Field], value: &Value) -> Result<Option<Cause>, NoMemory>
-    ensures { IfOk result (λ cause. cause ≡ why.first_wrong fields.now (view value.now)) }
-{
-    for field in fields {
-        if !is_right(alloc, *field, value)? {
-            return Ok(Some(wrong_value(*field, value)));
+    for key in keys {
+        let field = field_of(rules, turn, *key);
+        if !is_right(alloc, field, value)? {
+            return Ok(Some(wrong_value(field, value)));
         }
     }
     Ok(None)
 }
 
+/// A key and what must stand under it.
+fn field_of(rules: Rules, turn: u64, key: Key) -> FormField
+    ensures { result ≡ why.field_of rules turn key }
+{
+    let wanted = key.wanted(rules, turn);
+    FormField { key, wanted }
+}
+
 /// Whether what is wanted stands under the key.
-fn is_right(alloc: Global, field: Field, value: &Value) -> Result<bool, NoMemory>
+fn is_right(alloc: Global, field: FormField, value: &Value) -> Result<bool, NoMemory>
     ensures { IfOk result (λ right. right ≡ why.is_right field (view value.now)) }
 {
-    let key = field.key.as_str();
+    let key = field.key;
     match field.wanted {
         Wanted::Whole { least, most } => Ok(whole_under(least, most, value, key).is_some()),
         Wanted::Caller { callers } => Ok(caller_under(callers, value, key).is_some()),
@@ -163,9 +88,9 @@ fn is_right(alloc: Global, field: Field, value: &Value) -> Result<bool, NoMemory
 }
 
 /// Whether an array of rectangles of the map with their masks stands under the key.
-fn are_rectangles(alloc: Global, size: Size, value: &Value, key: &str) -> Result<bool, NoMemory>
+fn are_rectangles(alloc: Global, size: Size, value: &Value, key: Key) -> Result<bool, NoMemory>
     ensures { IfOk result (λ right. right ≡ is_some
-        (option_and_then (each (entry_of size)) (under array_items key.now (view value.now)))) }
+        (option_and_then (each (entry_of size)) (under array_items (key_text key) (view value.now)))) }
 {
     match items_under(value, key) {
         Some(items) => Ok(bases::entries_of(alloc, size, items)?.is_some()),
@@ -175,7 +100,7 @@ fn are_rectangles(alloc: Global, size: Size, value: &Value, key: &str) -> Result
 
 /// The cause of a field under whose key not what is wanted stands. Of a goal that has a goal's key it names that one, and
 /// of rectangles the first that is none.
-fn wrong_value(field: Field, value: &Value) -> Cause
+fn wrong_value(field: FormField, value: &Value) -> Cause
     ensures { result ≡ why.wrong_value field (view value.now) }
 {
     let key = field.key;
@@ -185,7 +110,7 @@ fn wrong_value(field: Field, value: &Value) -> Cause
             Some(goal) => wrong_goal(version, field, goal),
             None => Cause::WrongValue { key, wanted },
         },
-        Wanted::Rectangles { size } => match items_under(value, key.as_str()) {
+        Wanted::Rectangles { size } => match items_under(value, key) {
             Some(items) => wrong_items(size, field, items),
             None => Cause::WrongValue { key, wanted },
         },
@@ -194,7 +119,7 @@ fn wrong_value(field: Field, value: &Value) -> Cause
 }
 
 /// The cause of an array with an item that is no rectangle of the map with its mask.
-fn wrong_items(size: Size, field: Field, items: &[Value]) -> Cause
+fn wrong_items(size: Size, field: FormField, items: &[Value]) -> Cause
     ensures { result ≡ why.wrong_items size field 0 (map view items.now) }
 {
     let mut number: u64 = 0;

@@ -2,8 +2,10 @@
 ghost use Rattle.std.specs.Prelude.{◌≡◌, ◌≤◌, ◌<◌, ◌==◌, IfSome, length, false, map, option_and_then, option_map};
 ghost use Rattle.serde_json.specs.View.{view};
 ghost use Rattle.serde_json.specs.Find.{as_array, at};
+ghost use Rattle.script_text.specs.Table.{key_text};
 ghost use Rattle.script_text.specs.Values as value_form;
 
+use crate::causes::Key;
 use class_config::ClassName;
 use fixed_point::{Fixed, Rectangle};
 use nav_types::Size;
@@ -23,11 +25,11 @@ pub(crate) fn whole_in(least: u64, most: u64, value: &Value) -> Option<u64>
 }
 
 /// The whole number from `least` to `most` under a key.
-pub(crate) fn whole_under(least: u64, most: u64, value: &Value, key: &str) -> Option<u64>
-    ensures number { result ≡ value_form.under (value_form.whole_in least most) key.now (view value.now) }
+pub(crate) fn whole_under(least: u64, most: u64, value: &Value, key: Key) -> Option<u64>
+    ensures number { result ≡ value_form.under (value_form.whole_in least most) (key_text key) (view value.now) }
     ensures limits { IfSome result (λ number. (least ≤ number) × (number ≤ most)) }
 {
-    match value.get(key) {
+    match value.get(key.as_str()) {
         Some(found) => whole_in(least, most, found),
         None => None,
     }
@@ -46,11 +48,11 @@ pub(crate) fn whole_below(limit: u8, value: &Value) -> Option<u8>
 }
 
 /// The whole number below a limit under a key.
-pub(crate) fn caller_under(limit: u8, value: &Value, key: &str) -> Option<u8>
-    ensures number { result ≡ value_form.under (value_form.whole_below limit) key.now (view value.now) }
+pub(crate) fn caller_under(limit: u8, value: &Value, key: Key) -> Option<u8>
+    ensures number { result ≡ value_form.under (value_form.whole_below limit) (key_text key) (view value.now) }
     ensures below { IfSome result (λ number. number < limit) }
 {
-    match value.get(key) {
+    match value.get(key.as_str()) {
         Some(found) => whole_below(limit, found),
         None => None,
     }
@@ -67,10 +69,10 @@ pub(crate) fn obstruction_number(value: &Value) -> Option<u32>
 }
 
 /// The obstruction number under a key.
-pub(crate) fn number_under(value: &Value, key: &str) -> Option<u32>
-    ensures { result ≡ value_form.under value_form.obstruction_number key.now (view value.now) }
+pub(crate) fn number_under(value: &Value, key: Key) -> Option<u32>
+    ensures { result ≡ value_form.under value_form.obstruction_number (key_text key) (view value.now) }
 {
-    value.get(key).and_then(obstruction_number)
+    value.get(key.as_str()).and_then(obstruction_number)
 }
 
 /// A decimal: a string that has a value.
@@ -89,10 +91,10 @@ pub(crate) fn decimal(value: &Value) -> Option<Fixed>
 
 /// The class name under a key. None where there is no string of the form of a class name.
 #[tactic(auto, unfolding(crate::specs::Values::class_name))]
-pub(crate) fn name_under(value: &Value, key: &str) -> Option<ClassName>
-    ensures { result ≡ value_form.under value_form.class_name key.now (view value.now) }
+pub(crate) fn name_under(value: &Value, key: Key) -> Option<ClassName>
+    ensures { result ≡ value_form.under value_form.class_name (key_text key) (view value.now) }
 {
-    match class_config::text_under(value, key) {
+    match class_config::text_under(value, key.as_str()) {
         Some(text) => ClassName::new(text.as_bytes()),
         None => None,
     }
@@ -110,11 +112,11 @@ fn items_of(value: &Value) -> Option<&[Value]>
 }
 
 /// The items of the array under a key.
-pub(crate) fn items_under<'v>(value: &'v Value, key: &str) -> Option<&'v [Value]>
-    ensures { option_map (λ items. map view items.now) result ≡ value_form.under value_form.array_items key.now
+pub(crate) fn items_under<'v>(value: &'v Value, key: Key) -> Option<&'v [Value]>
+    ensures { option_map (λ items. map view items.now) result ≡ value_form.under value_form.array_items (key_text key)
         (view value.now) }
 {
-    match value.get(key) {
+    match value.get(key.as_str()) {
         Some(found) => items_of(found),
         None => None,
     }
@@ -167,10 +169,10 @@ pub(crate) fn point_of(value: &Value) -> Option<(Fixed, Fixed)>
 }
 
 /// The point under a key.
-pub(crate) fn point_under(value: &Value, key: &str) -> Option<(Fixed, Fixed)>
-    ensures { result ≡ value_form.under value_form.point_of key.now (view value.now) }
+pub(crate) fn point_under(value: &Value, key: Key) -> Option<(Fixed, Fixed)>
+    ensures { result ≡ value_form.under value_form.point_of (key_text key) (view value.now) }
 {
-    value.get(key).and_then(point_of)
+    value.get(key.as_str()).and_then(point_of)
 }
 
 /// An array of three decimals: x, z and a length.
@@ -192,10 +194,10 @@ pub(crate) fn round_of(value: &Value) -> Option<(Fixed, Fixed, Fixed)>
 }
 
 /// The three decimals under a key.
-pub(crate) fn round_under(value: &Value, key: &str) -> Option<(Fixed, Fixed, Fixed)>
-    ensures { result ≡ value_form.under value_form.round_of key.now (view value.now) }
+pub(crate) fn round_under(value: &Value, key: Key) -> Option<(Fixed, Fixed, Fixed)>
+    ensures { result ≡ value_form.under value_form.round_of (key_text key) (view value.now) }
 {
-    value.get(key).and_then(round_of)
+    value.get(key.as_str()).and_then(round_of)
 }
 
 /// An array of six decimals x, z, ux, uz, hw, hh.
@@ -226,10 +228,10 @@ pub(crate) fn rectangle_of(value: &Value) -> Option<Rectangle>
 }
 
 /// The six decimals under a key.
-pub(crate) fn rectangle_under(value: &Value, key: &str) -> Option<Rectangle>
-    ensures { result ≡ value_form.under value_form.rectangle_of key.now (view value.now) }
+pub(crate) fn rectangle_under(value: &Value, key: Key) -> Option<Rectangle>
+    ensures { result ≡ value_form.under value_form.rectangle_of (key_text key) (view value.now) }
 {
-    value.get(key).and_then(rectangle_of)
+    value.get(key.as_str()).and_then(rectangle_of)
 }
 
 /// An array of two whole numbers w, h that are sides of a map.
@@ -258,8 +260,8 @@ fn size_with(w: u64, h: u64) -> Option<Size>
 }
 
 /// The size under a key.
-pub(crate) fn size_under(value: &Value, key: &str) -> Option<Size>
-    ensures { result ≡ value_form.under value_form.size_of key.now (view value.now) }
+pub(crate) fn size_under(value: &Value, key: Key) -> Option<Size>
+    ensures { result ≡ value_form.under value_form.size_of (key_text key) (view value.now) }
 {
-    value.get(key).and_then(size_of)
+    value.get(key.as_str()).and_then(size_of)
 }

@@ -3,7 +3,7 @@ ghost use Rattle.std.specs.Prelude.{◌≡◌, ◌+◌, ◌++◌, ◌∷◌, ◌
 ghost use Rattle.path_service.specs.machine.Effects.{next_posts, added_up};
 
 use nav_types::{NoMemory, Sequence};
-use posts::{Post, Posts, TurnPosts, copied_items};
+use posts::{Post, Posts, TurnPosts};
 use std::alloc::Global;
 
 /// A turn, and how many posts of each caller are taken with it.
@@ -21,7 +21,9 @@ impl NextTurn {
         ensures taken { OnOk result (self.new.taken.items ≡ self.old.taken.items ++ (before + length posts.now) ∷ []) }
     {
         self.taken.push(before + posts.len() as u64)?;
-        self.turn.push(copied_items(alloc, posts)?)?;
+        let mut taken = Posts::new(alloc);
+        taken.extend(posts)?;
+        self.turn.push(taken)?;
         Ok(())
     }
 }

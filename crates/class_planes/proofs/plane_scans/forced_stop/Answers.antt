@@ -37,16 +37,16 @@ end_inside plane straight from steps end =
     subst (λ n. IsInside plane.size (cell_along straight from n)) (sym end.count)
     (only_inside plane (cell_along straight from end.far.count) (end.runs.free end.far.count (omega arith)))
 
-pub returns-then-not-has_stop-clause-none : goal.returns-then-not-has_stop-clause-none
-returns-then-not-has_stop-clause-none c =
-    let known = c.has_stop.ensures in (known.0, (known.1.0, sym known.1.1 ∙ c.if-not-has_stop.true))
+pub returns-then-not-has_jump_point-clause-none : goal.returns-then-not-has_jump_point-clause-none
+returns-then-not-has_jump_point-clause-none c =
+    let known = c.has_jump_point.ensures in (known.0, (known.1.0, sym known.1.1 ∙ c.if-not-has_jump_point.true))
 
 pub cell_along-requires-clause-column : goal.cell_along-requires-clause-column
 cell_along-requires-clause-column c =
     let size : Size = c.args.plane.now.size in
     let inside = end_inside c.args.plane.now c.args.straight c.args.from c.in-Some.steps
-    (end_of c.args.plane.now c.args.straight c.args.from c.has_stop.result c.in-Some.steps c.has_stop.ensures
-    c.if-not-has_stop.false c.in-Some.ensures) in
+    (end_of c.args.plane.now c.args.straight c.args.from c.has_jump_point.result c.in-Some.steps c.has_jump_point.ensures
+    c.if-not-has_jump_point.false c.in-Some.ensures) in
     let at = inside.column in
     let few = size.wide.few in
     omega (arith, at, few)
@@ -55,20 +55,20 @@ pub cell_along-requires-clause-row : goal.cell_along-requires-clause-row
 cell_along-requires-clause-row c =
     let size : Size = c.args.plane.now.size in
     let inside = end_inside c.args.plane.now c.args.straight c.args.from c.in-Some.steps
-    (end_of c.args.plane.now c.args.straight c.args.from c.has_stop.result c.in-Some.steps c.has_stop.ensures
-    c.if-not-has_stop.false c.in-Some.ensures) in
+    (end_of c.args.plane.now c.args.straight c.args.from c.has_jump_point.result c.in-Some.steps c.has_jump_point.ensures
+    c.if-not-has_jump_point.false c.in-Some.ensures) in
     let at = inside.row in
     let few = size.high.few in
     omega (arith, at, few)
 
 pub returns-clause-some : goal.returns-clause-some
 returns-clause-some c =
-    let end = end_of c.args.plane.now c.args.straight c.args.from c.has_stop.result c.in-Some.steps c.has_stop.ensures
-    c.if-not-has_stop.false c.in-Some.ensures in
+    let end = end_of c.args.plane.now c.args.straight c.args.from c.has_jump_point.result c.in-Some.steps c.has_jump_point.ensures
+    c.if-not-has_jump_point.false c.in-Some.ensures in
     (end.far, (end.runs, (end.forced, c.cell_along.ensures ∙ ap (cell_along c.args.straight c.args.from) end.count)))
 
 pub returns-in_default-clause-none : goal.returns-in_default-clause-none
 returns-in_default-clause-none c =
-    let known = c.has_stop.ensures in
-    let forced : IsTrue known.0.forced = sym known.1.1 ∙ c.if-not-has_stop.false in
+    let known = c.has_jump_point.ensures in
+    let forced : IsTrue known.0.forced = sym known.1.1 ∙ c.if-not-has_jump_point.false in
     let none = c.in_default.ensures known.0 known.1.0 forced in cc

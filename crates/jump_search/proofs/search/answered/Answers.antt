@@ -11,7 +11,7 @@ pub unreachable-requires : goal.unreachable-requires
 unreachable-requires g c =
     let q = c.args.question.now in
     let can = c.requires.search in
-    ended_some c.args.all _ _ q.start (g.E.Estimate.least c.args.ahead.now) c.searched.new.front.nodes
+    ended_some c.args.all _ _ q.start (g.E.Estimate.least c.args.ahead.now) c.searched.new.frontier.nodes
     c.in_ok-search.search.best can.free c.requires.ahead.consistent can.reach c.in_ok-search.ensures.ended
     c.in_default.is
 
@@ -19,7 +19,7 @@ pub found-requires : goal.found-requires
 found-requires g c =
     let q = c.args.question.now in
     let ahead = g.E.Estimate.least c.args.ahead.now in
-    let able = ended_able c.args.all _ _ q.start _ ahead c.searched.new.front.nodes c.in_ok-search.search.best
+    let able = ended_able c.args.all _ _ q.start _ ahead c.searched.new.frontier.nodes c.in_ok-search.search.best
     c.in-Some.best (g.met.R.View.within q.runs.now q.class) c.requires.search.free c.requires.ahead.consistent
     c.in_ok-search.ensures.ended c.in-Some.is in
     let hit = g.A.Aim.hit q.aim.now (g.R.View.extent q.runs.now) in
@@ -30,10 +30,10 @@ returns-in_err-found-clause-most g c =
     let q = c.args.question.now in
     let ahead = g.E.Estimate.least c.args.ahead.now in
     let best = c.in-Some.best in
-    let able = ended_able c.args.all _ _ q.start _ ahead c.searched.new.front.nodes c.in_ok-search.search.best best
+    let able = ended_able c.args.all _ _ q.start _ ahead c.searched.new.frontier.nodes c.in_ok-search.search.best best
     (g.met.R.View.within q.runs.now q.class) c.requires.search.free c.requires.ahead.consistent
     c.in_ok-search.ensures.ended c.in-Some.is in
-    ended_ticks c.args.all _ _ _ q.start _ ahead best.cell best.cost c.searched.new.front.nodes c.args.ticks.now
+    ended_ticks c.args.all _ _ _ q.start _ ahead best.cell best.cost c.searched.new.frontier.nodes c.args.ticks.now
     c.searched.new.ticks c.in_ok-search.search.opened c.requires.ahead able c.in_ok-search.ensures.opened
     c.in_ok-search.ensures.ticks
 
@@ -46,14 +46,14 @@ returns g c =
     let hit = g.A.Aim.hit q.aim.now (g.R.View.extent q.runs.now) in
     let search = c.in_ok-search.search in
     let ended = c.in_ok-search.ensures in
-    let able = ended_able c.args.all passes hit q.start _ ahead c.searched.new.front.nodes search.best best
+    let able = ended_able c.args.all passes hit q.start _ ahead c.searched.new.frontier.nodes search.best best
     (g.met.R.View.within q.runs.now q.class) c.requires.search.free c.requires.ahead.consistent
     ended.ended c.in-Some.is in
     record {
       answer = c.in_ok-found.ensures.answer c.args.all passes hit ahead able;
       opened = λ is rect same. rw c.in_ok-found.ensures.cost (counts_of c.args.all passes hit q.start ahead rect
-          best.cell best.cost c.searched.new.front.nodes able is same search.opened ended.opened);
+          best.cell best.cost c.searched.new.frontier.nodes able is same search.opened ended.opened);
       ticks = ended.ticks;
-      most = ended_ticks c.args.all passes hit _ q.start _ ahead best.cell best.cost c.searched.new.front.nodes
+      most = ended_ticks c.args.all passes hit _ q.start _ ahead best.cell best.cost c.searched.new.frontier.nodes
           c.args.ticks.now c.searched.new.ticks search.opened c.requires.ahead able ended.opened ended.ticks;
     }

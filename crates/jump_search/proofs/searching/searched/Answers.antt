@@ -18,17 +18,17 @@ take-requires-clause-taken g c =
     let passes = g.R.View.passes c.args.problem.now.runs.now c.args.problem.now.class in
     let hit = g.A.Aim.hit c.args.problem.now.aim.now (g.R.View.extent c.args.problem.now.runs.now) in
     let search = c.search.search in
-    let front = c.search.front in
-    let next = c.next.new.front in
+    let frontier = c.search.frontier in
+    let next = c.next.new.frontier in
     let known = c.search.invariant.underway in
     let step = c.next.ensures in
     let some = c.in-Some.ensures in
     let ahead = g.E.Estimate.least c.args.ahead.now in
     let entry = c.in-Some.entry in
-    let taken : IsTaken c.args.problem.now.all passes hit c.args.problem.now.start ahead known.0 front.nodes next.waiting
+    let taken : IsTaken c.args.problem.now.all passes hit c.args.problem.now.start ahead known.0 frontier.nodes next.waiting
     search.best entry =
     record {
-      before = front.waiting;
+      before = frontier.waiting;
       underway = known.1;
       least = some.least;
       rest = some.rest;
@@ -47,7 +47,7 @@ search-smaller g c =
     let few = known.few in
     let opened = c.search.invariant.opened in
     let one = c.in_ok-take.ensures.one in
-    let most = count_most c.search.front.nodes in
+    let most = count_most c.search.frontier.nodes in
     omega (arith, few, opened, one, most)
 
 pub search-preserved : goal.search-preserved
@@ -55,17 +55,17 @@ search-preserved g c =
     let passes = g.R.View.passes c.args.problem.now.runs.now c.args.problem.now.class in
     let hit = g.A.Aim.hit c.args.problem.now.aim.now (g.R.View.extent c.args.problem.now.runs.now) in
     let search = c.search.search in
-    let front = c.search.front in
-    let next = c.next.new.front in
+    let frontier = c.search.frontier in
+    let next = c.next.new.frontier in
     let known = c.search.invariant.underway in
     let step = c.next.ensures in
     let some = c.in-Some.ensures in
     let ahead = g.E.Estimate.least c.args.ahead.now in
     let entry = c.in-Some.entry in
-    let taken : IsTaken c.args.problem.now.all passes hit c.args.problem.now.start ahead known.0 front.nodes next.waiting
+    let taken : IsTaken c.args.problem.now.all passes hit c.args.problem.now.start ahead known.0 frontier.nodes next.waiting
     search.best entry =
     record {
-      before = front.waiting;
+      before = frontier.waiting;
       underway = known.1;
       least = some.least;
       rest = some.rest;
@@ -88,14 +88,14 @@ returns-in_err-take-clause-halted g c =
     let hit = g.A.Aim.hit c.args.problem.now.aim.now (g.R.View.extent c.args.problem.now.runs.now) in
     let ahead = g.E.Estimate.least c.args.ahead.now in
     let known = c.search.invariant in
-    let ticks : c.take.new.ticks ≡ c.args.ticks.now + opened_count c.search.front.nodes =
+    let ticks : c.take.new.ticks ≡ c.args.ticks.now + opened_count c.search.frontier.nodes =
     c.in_err-take.ensures.none ∙ known.ticks ∙ ap (λ (n : ℕ). c.args.ticks.now + n) known.opened in
     let is = halted c.args.problem.now.all passes hit c.args.problem.now.start ahead known.underway.0
-    c.search.front.nodes c.search.front.waiting c.search.search.best known.underway.1 in
+    c.search.frontier.nodes c.search.frontier.waiting c.search.search.best known.underway.1 in
     let told : (c.take.new.ticks ≡ c.args.ticks.now) ⊎ ((nodes : List Node)
     × ((floor : ℕ) × (IsHalted c.args.problem.now.all passes hit c.args.problem.now.start ahead floor nodes
     × (c.take.new.ticks ≡ c.args.ticks.now + opened_count nodes)))) =
-    inr (c.search.front.nodes, (known.underway.0, (is, ticks))) in
+    inr (c.search.frontier.nodes, (known.underway.0, (is, ticks))) in
     on_err_from c.from_residual-in_err-take.result _ told
 
 pub returns-clause-ended : goal.returns-clause-ended
@@ -105,7 +105,7 @@ returns-clause-ended g c =
     let ahead = g.E.Estimate.least c.args.ahead.now in
     let search = c.search.search in
     let known = c.search.invariant.underway in
-    let is = ended c.args.problem.now.all passes hit c.args.problem.now.start ahead known.0 c.search.front.nodes
-    c.search.front.waiting search.best known.1 c.in_default.ensures.past in
+    let is = ended c.args.problem.now.all passes hit c.args.problem.now.start ahead known.0 c.search.frontier.nodes
+    c.search.frontier.waiting search.best known.1 c.in_default.ensures.past in
     subst (λ (ns : List Node). HasEnded c.args.problem.now.all passes hit c.args.problem.now.start ahead ns search.best)
     (sym c.next.ensures.nodes) is

@@ -7,9 +7,9 @@ invariant-search g l =
     let passes = g.R.View.passes l.problem.runs.now l.problem.class in
     let hit = g.A.Aim.hit l.problem.aim.now (g.R.View.extent l.problem.runs.now) in
     record {
-      underway : (floor : ℕ) × IsUnderway l.problem.all passes hit l.problem.start (g.E.Estimate.least l.ahead) floor l.front.nodes
-          l.front.waiting l.search.best;
-      opened : l.search.opened ≡ opened_count l.front.nodes;
+      underway : (floor : ℕ) × IsUnderway l.problem.all passes hit l.problem.start (g.E.Estimate.least l.ahead) floor l.frontier.nodes
+          l.frontier.waiting l.search.best;
+      opened : l.search.opened ≡ opened_count l.frontier.nodes;
       ticks : l.ticks ≡ l.initial.ticks + l.search.opened;
     }
 

@@ -4,9 +4,9 @@ use Rattle.path_service.proofs.services.open_lanes.Goals as goal
 
 pub loop-number-init : goal.loop-number-init
 loop-number-init g c = record {
-  are = open_none c.in_ok-ports.ports.items c.in_ok-callers.callers.items c.in_ok-ports.ensures.items c.in_ok-callers.ensures.items;
+  are = open_none c.in_ok-channels.channels.items c.in_ok-callers.callers.items c.in_ok-channels.ensures.items c.in_ok-callers.ensures.items;
   count = ap length c.in_ok-callers.ensures.items;
-  ports_room = omega (arith, c.in_ok-ports.ensures.capacity, c.from-room.ensures);
+  ports_room = omega (arith, c.in_ok-channels.ensures.capacity, c.from-room.ensures);
   callers_room = omega (arith, c.in_ok-callers.ensures.capacity, c.from-room.ensures);
 }
 
@@ -17,12 +17,12 @@ push_reserved-requires g c =
 pub loop-number-preserved : goal.loop-number-preserved
 loop-number-preserved g c =
     let before = c.loop-number.invariant in
-    let ports = c.loop-number.ports.items in
+    let channels = c.loop-number.channels.items in
     let callers = c.loop-number.callers.items in
     record {
-      are = open_more c.loop-number.number ports c.push_reserved.new.self.items callers c.push_reserved-in-loop-number.new.self.items c.in_ok-port.port c.in_ok-port.caller before.are
-          c.in_ok-port.ensures.port c.in_ok-port.ensures.caller c.push_reserved.ensures.items c.push_reserved-in-loop-number.ensures.items;
-      count = omega (arith, before.count, ap length c.push_reserved-in-loop-number.ensures.items, length-append callers (c.in_ok-port.caller ∷ []));
+      are = open_more c.loop-number.number channels c.push_reserved.new.self.items callers c.push_reserved-in-loop-number.new.self.items c.in_ok-channel.channel c.in_ok-channel.caller before.are
+          c.in_ok-channel.ensures.channel c.in_ok-channel.ensures.caller c.push_reserved.ensures.items c.push_reserved-in-loop-number.ensures.items;
+      count = omega (arith, before.count, ap length c.push_reserved-in-loop-number.ensures.items, length-append callers (c.in_ok-channel.caller ∷ []));
       ports_room = omega (arith, before.ports_room, c.push_reserved.ensures.capacity);
       callers_room = omega (arith, before.callers_room, c.push_reserved-in-loop-number.ensures.capacity);
     }

@@ -2,8 +2,8 @@ use Rattle.std.proofs.Common.{◌≡◌, sym, ◌∙◌}
 use Rattle.path_service.specs.Callers.{fresh}
 use Rattle.path_service.proofs.services.open_pair.Goals as goal
 
-pub returns-clause-port : goal.returns-clause-port
-returns-clause-port g c = record {
+pub returns-clause-channel : goal.returns-clause-channel
+returns-clause-channel g c = record {
   taken = c.in_ok-post_in.ensures.taken.0;
   told = c.in_ok-post_in.ensures.taken.1;
   sent = c.in_ok-reply_in.ensures.posted;

@@ -8,7 +8,7 @@ pub returns-clause-count : goal.returns-clause-count
 returns-clause-count g c =
     ap (λ (d : DriverState). length d.callers) c.new-driver.ensures
     ∙ length-ids 0 _
-    ∙ c.in_ok-ports.ensures.count
+    ∙ c.in_ok-channels.ensures.count
     ∙ c.callers-2.ensures.callers
 
 pub returns-clause-numbers : goal.returns-clause-numbers

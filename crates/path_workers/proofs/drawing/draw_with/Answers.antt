@@ -25,7 +25,7 @@ drawing-preserved g c =
     record {
       board = ap (λ (seat : SeatState). seat.board) next ∙ kept.board;
       live = ap (λ (seat : SeatState). seat.ended) next ∙ kept.live;
-      credit = ap (λ (seat : SeatState). seat.credit) next ∙ kept.credit;
+      share = ap (λ (seat : SeatState). seat.share) next ∙ kept.share;
       numbers = more.0 ∙ sym (ap (λ (seat : SeatState). jobs_at c.args.turn.now.order.now seat.drawn) next);
       solver = c.solve_job.ensures.same ∙ kept.solver;
       answers = more.1;

@@ -8,7 +8,7 @@ abbrev pub invariant-drawing : goal.invariant-drawing
 invariant-drawing g l = record {
   board : l.seat.board ≡ l.turn.claims.now;
   live : l.seat.ended ≡ false;
-  credit : l.seat.credit ≡ l.fn.seat.credit;
+  share : l.seat.share ≡ l.fn.seat.share;
   numbers : job_numbers l.answered ≡ jobs_at l.turn.order.now l.seat.drawn;
   solver : l.solver ≡ record { state = l.turn.version.now; report = l.turn.report };
   answers : AnswerTheirJobs l.turn.version.now.map l.turn.version.now.standing l.turn.report l.turn.jobs.now l.answered;

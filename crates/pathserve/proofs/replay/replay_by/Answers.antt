@@ -47,7 +47,7 @@ write_item-requires-clause-fits g c =
     let led : Led c.items.reader.place (item_of c.in-Ok-Some.item ∷ []) c.next_item.new.self.place = rw c.in-Ok-Some.field-0-is at c.in-Ok-Some.ensures.led in
     let used = led.bytes in
     let rules = rw c.in-Ok-Some.field-0-is at c.in-Ok-Some.ensures.rules in
-    fits_now c.items.ground c.items.reader.place.part c.next_item.new.self.place.part c.in-Ok-Some.item before.fits rules (λ inside. (led.turns inside).1)
+    fits_now c.items.progress c.items.reader.place.part c.next_item.new.self.place.part c.in-Ok-Some.item before.fits rules (λ inside. (led.turns inside).1)
     (omega (arith, before.few, used, c.in-Ok-Some.ensures.leaves.held.limit))
 
 pub write_item-requires-clause-takes : goal.write_item-requires-clause-takes
@@ -70,14 +70,14 @@ items-preserved g c =
     let used = led.bytes in
     let rules = rw c.in-Ok-Some.field-0-is at c.in-Ok-Some.ensures.rules in
     let left_behind = rw c.in-Ok-Some.field-0-is at c.in-Ok-Some.ensures.leaves in
-    let becomes = c.in-Ok-write_item.ensures.ground in
+    let becomes = c.in-Ok-write_item.ensures.progress in
     record {
       stands = stands_item c.args.report _ _ _ _ _ _ _ _ _ _ i tt before.stands told c.in-Ok-Some.ensures.leaves.held.stays c.in-Ok-write_item.ensures.written;
       takes = λ count few. c.in-Ok-write_item.ensures.takes count (before.takes count few);
       quiet = before.quiet;
       going = left_behind.over;
-      fits = fits_then c.items.ground c.write_item.new.ground c.items.reader.place.part c.next_item.new.self.place.part i before.fits rules led.begun becomes;
-      few = omega (arith, before.few, used, turns_next c.items.ground c.write_item.new.ground i becomes);
+      fits = fits_then c.items.progress c.write_item.new.progress c.items.reader.place.part c.next_item.new.self.place.part i before.fits rules led.begun becomes;
+      few = omega (arith, before.few, used, turns_next c.items.progress c.write_item.new.progress i becomes);
       reads = omega (arith, before.reads, c.in-Ok-Some.ensures.takes.later);
       writes = omega (arith, before.writes, c.in-Ok-write_item.ensures.later);
     }
@@ -99,7 +99,7 @@ returns-in-Err-write_item-clause-run g c =
       };
       sink = record {
         taken = taken_more _ _ _ (stands_taken c.args.report _ _ _ _ _ _ c.items.invariant.stands)
-            (some_taken (λ text. Says c.args.report (said_of c.items.ground) (item_of c.in-Ok-Some.item) text (said_of c.write_item.new.ground)) _ _
+            (some_taken (λ text. Says c.args.report (said_of c.items.progress) (item_of c.in-Ok-Some.item) text (said_of c.write_item.new.progress)) _ _
             (Refused refusal) c.in-Err-write_item.ensures.written);
         later = omega (arith, c.items.invariant.writes, c.in-Err-write_item.ensures.later);
         fault = λ is.

@@ -25,8 +25,8 @@ room_left : (old now posts : List Post) (i : ℕ) → i < length posts → now �
 room_left old now posts i less is room = omega (arith, ap length is, length-append old (take i posts), length-append old posts, length-take i posts, room, less)
 
 -- a caller that posts stays who it is, and has posted one post more
-posts_one : (old new : CallerState) (post copy : Post) → new ≡ record old { posted = old.posted ++ copy ∷ [] } → copy ≡ post → (new.id ≡ old.id) × (new.posted ≡ old.posted ++ post ∷ [])
-posts_one old new post copy is same = (ap (λ (c : CallerState). c.id) is, ap (λ (c : CallerState). c.posted) is ∙ ap (λ (p : Post). old.posted ++ p ∷ []) same)
+posts_one : (old new : CallerState) (post : Post) → new ≡ record old { posted = old.posted ++ post ∷ [] } → (new.id ≡ old.id) × (new.posted ≡ old.posted ++ post ∷ [])
+posts_one old new post is = (ap (λ (c : CallerState). c.id) is, ap (λ (c : CallerState). c.posted) is)
 
 -- a caller that collects stays who it is, and has posted what it had
 collect_keeps : (old new : CallerState) (reply : Option (ℕ × Reply)) → IfSome reply (λ next. new ≡ record old { collected = old.collected ++ next.1 ∷ [] }) → IfNone reply (new ≡ old)
@@ -44,7 +44,7 @@ loop-post-preserved g c =
     let before = c.loop-post.invariant in
     let old = c.loop-post.caller in
     let new = c.post.new.self in
-    let posts = posts_one old new c.post-item.result c.copy.result c.in_ok-post.ensures.posted c.copy.ensures in
+    let posts = posts_one old new c.post-item.result c.in_ok-post.ensures.posted in
     let keeps = collect_keeps new c.collect-reply.new.self c.collect-reply.result c.collect-reply.ensures.collected c.collect-reply.ensures.none in
     record {
       id = keeps.0 ∙ posts.0 ∙ before.id;

@@ -1,5 +1,5 @@
 use Rattle.std.proofs.Common.{ℕ, ◌≡◌, ◌<◌, ◌≤◌}
-use Rattle.region_edges.specs.declared.neighbours.Side.TheVariants.{East}
+use Rattle.region_edges.specs.declared.neighbours.ChunkSide.TheVariants.{East}
 use Rattle.region_edges.specs.inner.Borders.{numbers_at}
 use Rattle.region_edges.proofs.borders.east_part.Given as goal
 

@@ -1,7 +1,7 @@
 use Rattle.std.proofs.Common.{arith}
 use Rattle.nav_types.specs.Cells.{cell_at}
 use Rattle.nav_types.specs.declared.straights.Axis.TheVariants.{Row, Column}
-use Rattle.class_planes.specs.declared.tracks.Track.{Track}
+use Rattle.class_planes.specs.declared.line_sets.LineSet.{LineSet}
 use Rattle.class_planes.proofs.StopLineLemmas.{track_along}
 use Rattle.class_planes.specs.inner.Lines.{RowTable, free_cell}
 use Rattle.class_planes.proofs.StopBandLemmas.{are_map_lines}
@@ -22,7 +22,7 @@ build-requires-2 c =
 
 pub invariant_of-result : goal.invariant_of-result
 invariant_of-result c =
-    let row_track : Track = c.in_ok-row_track.row_track in
+    let row_track : LineSet = c.in_ok-row_track.row_track in
     let kept = c.in_ok-row_track.ensures.lines in
     record {
       row_track = track_along Row c.args.size c.args.rows c.args.rows row_track row_track kept kept c.requires

@@ -4,7 +4,7 @@ use Rattle.nav_types.specs.declared.cells.Rect.{Rect}
 use Rattle.nav_types.specs.Cells.{IsRectInside, cell_at}
 use Rattle.nav_types.specs.declared.cells.Size.{Size}
 use Rattle.nav_types.specs.declared.straights.Axis.TheVariants.{Row, Column}
-use Rattle.class_planes.specs.declared.tracks.Track.{Track}
+use Rattle.class_planes.specs.declared.line_sets.LineSet.{LineSet}
 use Rattle.class_planes.proofs.StopLineLemmas.{track_along}
 use Rattle.class_planes.specs.Planes.{PlaneCells, IsOutside, is_passable}
 use Rattle.class_planes.specs.inner.Lines.{LineTable, RowTable, AreRows, free_cell, plane_of}
@@ -159,7 +159,7 @@ invariant_of-result g c =
     let size : c.self.inside.size ≡ extent = ap (λ (p : PlaneCells). p.size) c.self.view_is ∙ c.requires.extent in
     let inside : Size = c.self.inside.size in
     let rows : LineTable = c.in_ok-rows.rows in
-    let row_track : Track = c.in_ok-row_track.row_track in
+    let row_track : LineSet = c.in_ok-row_track.row_track in
     let kept = c.in_ok-row_track.ensures.lines in
     let are : AreRows (record { size = inside; rows = rows }) =
     subst (λ (s : Size). AreRows (record { size = s; rows = rows })) (sym size)

@@ -51,8 +51,8 @@ changed_parts-requires-clause-sized c = c.requires.sized ∙ sym c.size.ensures
 
 pub changed_parts-requires-clause-before : goal.changed_parts-requires-clause-before
 changed_parts-requires-clause-before c =
-    subst (λ (s : Size). AreChunksOf s c.args.self.now.ground.cells) (sym c.size.ensures)
-    (extents_of c.args.site.now.map.now c.requires.before.earlier c.args.self.now.ground.cells c.requires.before.painted)
+    subst (λ (s : Size). AreChunksOf s c.args.self.now.cell_layer.cells) (sym c.size.ensures)
+    (extents_of c.args.site.now.map.now c.requires.before.earlier c.args.self.now.cell_layer.cells c.requires.before.painted)
 
 pub changed_parts-requires-clause-after : goal.changed_parts-requires-clause-after
 changed_parts-requires-clause-after c =
@@ -63,7 +63,7 @@ pub updated-requires-clause-before : goal.updated-requires-clause-before
 updated-requires-clause-before c =
     subst (λ (parts : List ChangedPart). AreOfBefore c.new-painted.result.map.size (length c.new-painted.result.map.classes)
     (passes_of c.new-painted.result) parts c.args.self.now.planes) (sym c.deref.ensures.value)
-    (planes_before c.args.site.now.map.now c.args.site.now.shapes.now c.args.self.now.planes c.args.self.now.ground.cells c.args.cells.now c.args.dirty.now.rects
+    (planes_before c.args.site.now.map.now c.args.site.now.shapes.now c.args.self.now.planes c.args.self.now.cell_layer.cells c.args.cells.now c.args.dirty.now.rects
     c.args.changed.now c.in_ok-parts.parts.items c.size.result c.new-painted.result c.requires.before c.requires.cells c.size.ensures c.new-painted.ensures c.in_ok-parts.ensures.held)
 
 pub returns : goal.returns

@@ -60,7 +60,7 @@ module _ (map : Map) (old new : Standing) (before now : List Numbering) (items b
 
 pub next_planes-requires-clause-each : goal.next_planes-requires-clause-each
 next_planes-requires-clause-each g c =
-    ap length c.as_slice-bits.ensures.value ∙ c.in_ok-ground.ensures.bits.each ∙ c.in_ok-ground.ensures.cells.each
+    ap length c.as_slice-bits.ensures.value ∙ c.in_ok-cell_layer.ensures.bits.each ∙ c.in_ok-cell_layer.ensures.cells.each
 
 pub next_planes-requires-clause-before : goal.next_planes-requires-clause-before
 next_planes-requires-clause-before g c = record {
@@ -68,47 +68,47 @@ next_planes-requires-clause-before g c = record {
   planes_are = c.requires.parts.planes_are;
   painted = c.requires.parts.cells_are;
   covered = c.requires.covers;
-  changes = changes_here c.args.site.now.map.now c.args.earlier.now c.args.site.now.shapes.now c.args.self.now.ground.cells c.in_ok-ground.ground.cells
-      c.in_ok-ground.changed.items c.as_slice-bits.result.now c.requires.parts.cells_are c.in_ok-ground.ensures.cells
-      c.in_ok-ground.ensures.bits c.as_slice-bits.ensures.value;
+  changes = changes_here c.args.site.now.map.now c.args.earlier.now c.args.site.now.shapes.now c.args.self.now.cell_layer.cells c.in_ok-cell_layer.cell_layer.cells
+      c.in_ok-cell_layer.changed.items c.as_slice-bits.result.now c.requires.parts.cells_are c.in_ok-cell_layer.ensures.cells
+      c.in_ok-cell_layer.ensures.bits c.as_slice-bits.ensures.value;
 }
 
 pub next_tables-requires-clause-before : goal.next_tables-requires-clause-before
 next_tables-requires-clause-before g c =
-    tables_here c.args.site.now.map.now c.args.earlier.now c.args.site.now.shapes.now c.args.self.now.ground.cells c.in_ok-ground.ground.cells
-    c.in_ok-ground.changed.items c.in_ok-marks.marks c.requires.parts.cells_are c.in_ok-ground.ensures.cells
-    c.in_ok-ground.ensures.bits (c.in_ok-marks.ensures ∙ c.as_slice-bits.ensures.value) c.args.self.now.tables c.args.self.now.planes c.args.changes.now.dirty.now c.requires.parts.tables_are
+    tables_here c.args.site.now.map.now c.args.earlier.now c.args.site.now.shapes.now c.args.self.now.cell_layer.cells c.in_ok-cell_layer.cell_layer.cells
+    c.in_ok-cell_layer.changed.items c.in_ok-marks.marks c.requires.parts.cells_are c.in_ok-cell_layer.ensures.cells
+    c.in_ok-cell_layer.ensures.bits (c.in_ok-marks.ensures ∙ c.as_slice-bits.ensures.value) c.args.self.now.tables c.args.self.now.planes c.args.changes.now.dirty.now c.requires.parts.tables_are
     c.requires.parts.planes_are c.requires.covers c.requires.sized
 
 pub returns-in_err-tables-clause-most : goal.returns-in_err-tables-clause-most
 returns-in_err-tables-clause-most g c =
-    most_here c.args.site.now.map.now c.args.earlier.now c.args.site.now.shapes.now c.args.self.now.ground.cells c.in_ok-ground.ground.cells
-    c.in_ok-ground.changed.items c.in_ok-marks.marks c.requires.parts.cells_are c.in_ok-ground.ensures.cells
-    c.in_ok-ground.ensures.bits (c.in_ok-marks.ensures ∙ c.as_slice-bits.ensures.value) c.args.ticks.now c.next_tables.new.ticks c.next_tables.ensures.most
+    most_here c.args.site.now.map.now c.args.earlier.now c.args.site.now.shapes.now c.args.self.now.cell_layer.cells c.in_ok-cell_layer.cell_layer.cells
+    c.in_ok-cell_layer.changed.items c.in_ok-marks.marks c.requires.parts.cells_are c.in_ok-cell_layer.ensures.cells
+    c.in_ok-cell_layer.ensures.bits (c.in_ok-marks.ensures ∙ c.as_slice-bits.ensures.value) c.args.ticks.now c.next_tables.new.ticks c.next_tables.ensures.most
 
 pub returns-clause-most : goal.returns-clause-most
 returns-clause-most g c =
-    most_here c.args.site.now.map.now c.args.earlier.now c.args.site.now.shapes.now c.args.self.now.ground.cells c.in_ok-ground.ground.cells
-    c.in_ok-ground.changed.items c.in_ok-marks.marks c.requires.parts.cells_are c.in_ok-ground.ensures.cells
-    c.in_ok-ground.ensures.bits (c.in_ok-marks.ensures ∙ c.as_slice-bits.ensures.value) c.args.ticks.now c.next_tables.new.ticks c.next_tables.ensures.most
+    most_here c.args.site.now.map.now c.args.earlier.now c.args.site.now.shapes.now c.args.self.now.cell_layer.cells c.in_ok-cell_layer.cell_layer.cells
+    c.in_ok-cell_layer.changed.items c.in_ok-marks.marks c.requires.parts.cells_are c.in_ok-cell_layer.ensures.cells
+    c.in_ok-cell_layer.ensures.bits (c.in_ok-marks.ensures ∙ c.as_slice-bits.ensures.value) c.args.ticks.now c.next_tables.new.ticks c.next_tables.ensures.most
 
 pub returns-clause-relabelled : goal.returns-clause-relabelled
 returns-clause-relabelled g c =
     subst (λ (n : ℕ). HasRelabelled (length c.args.site.now.map.now.classes) (passable_at c.args.site.now.map.now c.args.earlier.now)
     (passable_at c.args.site.now.map.now c.args.site.now.shapes.now) n) (sym c.marks_below-relabelled.ensures)
-    (counted_here c.args.site.now.map.now c.args.earlier.now c.args.site.now.shapes.now c.args.self.now.ground.cells c.in_ok-ground.ground.cells
-    c.in_ok-ground.changed.items c.as_slice-bits.result.now c.requires.parts.cells_are c.in_ok-ground.ensures.cells
-    c.in_ok-ground.ensures.bits c.as_slice-bits.ensures.value c.count.result (c.count.ensures.count ∙ ap length c.classes.ensures))
+    (counted_here c.args.site.now.map.now c.args.earlier.now c.args.site.now.shapes.now c.args.self.now.cell_layer.cells c.in_ok-cell_layer.cell_layer.cells
+    c.in_ok-cell_layer.changed.items c.as_slice-bits.result.now c.requires.parts.cells_are c.in_ok-cell_layer.ensures.cells
+    c.in_ok-cell_layer.ensures.bits c.as_slice-bits.ensures.value c.count.result (c.count.ensures.count ∙ ap length c.classes.ensures))
 
 pub returns-clause-parts : goal.returns-clause-parts
 returns-clause-parts g c =
-    let ground = c.in_ok-ground.ensures in
+    let cell_layer = c.in_ok-cell_layer.ensures in
     let tables = c.in_ok-tables.ensures.tables in
     record {
       fit = c.requires.fit;
-      base_are = ground.base;
-      reachers_are = ground.reachers;
-      cells_are = ground.cells;
+      base_are = cell_layer.base;
+      reachers_are = cell_layer.reachers;
+      cells_are = cell_layer.cells;
       planes_are = c.in_ok-planes.ensures;
       tables_are = tables;
       few = subst (λ (n : ℕ). n ≤ 16) (c.requires.parts.tables_are.each ∙ sym tables.each) c.requires.parts.few;

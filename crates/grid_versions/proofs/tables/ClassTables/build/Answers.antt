@@ -6,7 +6,7 @@ use Rattle.nav_types.specs.Cells.{IsInside}
 use Rattle.chunk_regions.specs.Labelling.{Labelling}
 use Rattle.region_edges.specs.Edges.{PassesInside}
 use Rattle.std.proofs.Common.{ℕ, List}
-use Rattle.region_edges.specs.declared.neighbours.Side.TheVariants.{East, North}
+use Rattle.region_edges.specs.declared.neighbours.ChunkSide.TheVariants.{East, North}
 use Rattle.class_planes.specs.Planes.{is_passable}
 use Rattle.class_planes.proofs.PlaneLemmas.{only_inside}
 use Rattle.grid_versions.specs.inner.Tables.{AreTables, AreAllLabels, AreAllEdges}

@@ -1,6 +1,6 @@
 use Rattle.std.proofs.Common.{◌∙◌}
 use Rattle.reach_sets.specs.declared.regions.RegionId.{RegionId}
-use Rattle.region_edges.specs.declared.neighbours.Side.TheVariants.{East, North}
+use Rattle.region_edges.specs.declared.neighbours.ChunkSide.TheVariants.{East, North}
 use Rattle.grid_versions.specs.inner.Building.{IsSideLink}
 use Rattle.grid_versions.proofs.BuildLemmas.{two_sides}
 use Rattle.grid_versions.proofs.tables.borders.all_links.Goals as goal

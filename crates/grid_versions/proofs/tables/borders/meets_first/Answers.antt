@@ -1,12 +1,12 @@
 use Rattle.std.proofs.Common.{◌≡◌, ◌%◌, subst, arith}
 use Rattle.std.proofs.lemmas.Bool.{eqb-false}
-use Rattle.region_edges.specs.declared.neighbours.Side.{Side}
+use Rattle.region_edges.specs.declared.neighbours.ChunkSide.{ChunkSide}
 use Rattle.grid_versions.specs.inner.Keeping.{IsFirstOn}
 use Rattle.grid_versions.proofs.tables.borders.meets_first.Goals as goal
 
 pub returns-in-East : goal.returns-in-East
 returns-in-East c = λ apart size chunk within cell first inside.
-    let here : cell.i % 96 ≡ 0 = subst (λ (side : Side). IsFirstOn side cell) c.in-East.is first in
+    let here : cell.i % 96 ≡ 0 = subst (λ (side : ChunkSide). IsFirstOn side cell) c.in-East.is first in
     let other = eqb-false (c.args.part.i0 % 96) 0 apart in
     let low = within.first.west in
     let high = within.last.east in
@@ -16,7 +16,7 @@ returns-in-East c = λ apart size chunk within cell first inside.
 
 pub returns-in-North : goal.returns-in-North
 returns-in-North c = λ apart size chunk within cell first inside.
-    let here : cell.j % 96 ≡ 0 = subst (λ (side : Side). IsFirstOn side cell) c.in-North.is first in
+    let here : cell.j % 96 ≡ 0 = subst (λ (side : ChunkSide). IsFirstOn side cell) c.in-North.is first in
     let other = eqb-false (c.args.part.j0 % 96) 0 apart in
     let low = within.first.south in
     let high = within.last.north in

@@ -1,12 +1,12 @@
 use Rattle.std.proofs.Common.{◌≡◌, ◌%◌, ◌+◌, subst, arith}
 use Rattle.std.proofs.lemmas.Bool.{eqb-false}
-use Rattle.region_edges.specs.declared.neighbours.Side.{Side}
+use Rattle.region_edges.specs.declared.neighbours.ChunkSide.{ChunkSide}
 use Rattle.grid_versions.specs.inner.Keeping.{IsLastOn}
 use Rattle.grid_versions.proofs.tables.borders.meets_last.Goals as goal
 
 pub returns-in-East : goal.returns-in-East
 returns-in-East c = λ apart size chunk within cell last inside.
-    let here : cell.i % 96 + 1 ≡ 96 = subst (λ (side : Side). IsLastOn side cell) c.in-East.is last in
+    let here : cell.i % 96 + 1 ≡ 96 = subst (λ (side : ChunkSide). IsLastOn side cell) c.in-East.is last in
     let other = eqb-false (c.args.part.i1 % 96 + 1) 96 apart in
     let low = within.first.west in
     let high = within.last.east in
@@ -16,7 +16,7 @@ returns-in-East c = λ apart size chunk within cell last inside.
 
 pub returns-in-North : goal.returns-in-North
 returns-in-North c = λ apart size chunk within cell last inside.
-    let here : cell.j % 96 + 1 ≡ 96 = subst (λ (side : Side). IsLastOn side cell) c.in-North.is last in
+    let here : cell.j % 96 + 1 ≡ 96 = subst (λ (side : ChunkSide). IsLastOn side cell) c.in-North.is last in
     let other = eqb-false (c.args.part.j1 % 96 + 1) 96 apart in
     let low = within.first.south in
     let high = within.last.north in

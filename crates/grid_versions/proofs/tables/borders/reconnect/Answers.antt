@@ -5,7 +5,7 @@ use Rattle.std.proofs.lemmas.Option.{slice_get_within}
 use Rattle.nav_types.specs.declared.cells.Cell.{Cell}
 use Rattle.nav_types.specs.declared.cells.Chunk.{Chunk}
 use Rattle.nav_types.specs.declared.cells.Size.{Size}
-use Rattle.region_edges.specs.declared.neighbours.Side.{Side}
+use Rattle.region_edges.specs.declared.neighbours.ChunkSide.{ChunkSide}
 use Rattle.region_edges.specs.Edges.{AreEdges}
 use Rattle.grid_versions.specs.Chunks.{chunk_count}
 use Rattle.grid_versions.specs.inner.ChunkLists.{chunk_numbered, neighbour_on}
@@ -16,7 +16,7 @@ use Rattle.grid_versions.proofs.RemakeLemmas.{AreRemade, remade_more, all_remade
 use Rattle.grid_versions.proofs.tables.borders.reconnect.Goals as goal
 
 -- edges of chunks that agree with their neighbours are passed over
-edges_past : (old now : Cell → Bool) (size : Size) (side : Side) (from to : ℕ) (all : List (List (ℕ × ℕ)))
+edges_past : (old now : Cell → Bool) (size : Size) (side : ChunkSide) (from to : ℕ) (all : List (List (ℕ × ℕ)))
     → length all ≡ chunk_count size
     → ((place : ℕ) → from ≤ place → place < to → place < chunk_count size
     → AgreeInChunk old now (chunk_numbered size place) × AgreeInChunk old now (neighbour_on side (chunk_numbered size place)))

@@ -10,10 +10,10 @@ use Rattle.grid_versions.proofs.versions.Version.build.Goals as goal
 pub invariant_of-parts : goal.invariant_of-parts
 invariant_of-parts g c =
     let made = c.in_ok-layers.layers in
-    let ground = made.ground in
-    subst (λ (m : Map). AreParts m (arc_value c.in_ok-standing.standing) ground.base ground.reachers ground.cells made.planes made.tables)
+    let cell_layer = made.cell_layer in
+    subst (λ (m : Map). AreParts m (arc_value c.in_ok-standing.standing) cell_layer.base cell_layer.reachers cell_layer.cells made.planes made.tables)
     (sym c.in_ok-shared.ensures)
-    (subst (λ (s : Standing). AreParts c.args.map.now s ground.base ground.reachers ground.cells made.planes made.tables)
+    (subst (λ (s : Standing). AreParts c.args.map.now s cell_layer.base cell_layer.reachers cell_layer.cells made.planes made.tables)
     (sym c.in_ok-standing.ensures) c.in_ok-layers.ensures.parts)
 
 pub invariant_of-result : goal.invariant_of-result

@@ -8,6 +8,6 @@ use Rattle.grid_versions.proofs.versions.Version.grown_guides.Goals as goal
 pub new-bare-requires : goal.new-bare-requires
 new-bare-requires c =
     let map = c.deref.result.now in
-    let base = c.parts.inside.layers.ground.base in
+    let base = c.parts.inside.layers.cell_layer.base in
     subst (λ (s : Standing). ArePaintedChunks map s base) (sym c.in_ok-nothing.ensures)
     (base_painted map base (subst (λ (m : Map). AreBaseChunks m base) (sym c.deref.ensures) c.parts.invariant.base_are))

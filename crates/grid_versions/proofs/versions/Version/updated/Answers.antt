@@ -26,9 +26,9 @@ most_here read state now new start end same now_is most =
 pub updated-requires-clause-parts : goal.updated-requires-clause-parts
 updated-requires-clause-parts g c =
     let own = c.parts.inside.layers in
-    subst (λ (m : Map). AreParts m c.deref-before.result.now own.ground.base own.ground.reachers own.ground.cells own.planes own.tables)
+    subst (λ (m : Map). AreParts m c.deref-before.result.now own.cell_layer.base own.cell_layer.reachers own.cell_layer.cells own.planes own.tables)
     (sym c.deref-map.ensures)
-    (subst (λ (s : Standing). AreParts (arc_value c.parts.inside.map) s own.ground.base own.ground.reachers own.ground.cells own.planes own.tables)
+    (subst (λ (s : Standing). AreParts (arc_value c.parts.inside.map) s own.cell_layer.base own.cell_layer.reachers own.cell_layer.cells own.planes own.tables)
     (sym c.deref-before.ensures) c.parts.invariant)
 
 pub updated-requires-clause-fit : goal.updated-requires-clause-fit
@@ -96,10 +96,10 @@ returns-clause-most g c =
 pub invariant_of-next : goal.invariant_of-next
 invariant_of-next g c =
     let next = c.in_ok-layers.layers in
-    let ground = next.ground in
-    subst (λ (m : Map). AreParts m (arc_value c.in_ok-standing.standing) ground.base ground.reachers ground.cells next.planes next.tables)
+    let cell_layer = next.cell_layer in
+    subst (λ (m : Map). AreParts m (arc_value c.in_ok-standing.standing) cell_layer.base cell_layer.reachers cell_layer.cells next.planes next.tables)
     (c.deref-map.ensures ∙ sym c.in_ok-shared.ensures)
-    (subst (λ (s : Standing). AreParts c.deref-map.result.now s ground.base ground.reachers ground.cells next.planes next.tables)
+    (subst (λ (s : Standing). AreParts c.deref-map.result.now s cell_layer.base cell_layer.reachers cell_layer.cells next.planes next.tables)
     c.deref-now.ensures c.in_ok-layers.ensures.parts)
 
 pub returns-clause-relabelled : goal.returns-clause-relabelled

@@ -16,7 +16,7 @@ same_state state map kept standing was is map_is standing_is =
 
 pub new-painted-requires : goal.new-painted-requires
 new-painted-requires c =
-    let cells = c.parts.inside.layers.ground.cells in
+    let cells = c.parts.inside.layers.cell_layer.cells in
     let is = c.parts.view_is ∙ c.kept-parts.ensures in
     let read = same_state c.args.self.now c.map.result.now (arc_value c.parts.inside.map) c.shapes.result.now
     (arc_value c.parts.inside.shapes) is c.map.ensures c.shapes.ensures.standing in

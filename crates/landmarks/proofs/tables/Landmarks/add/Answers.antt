@@ -4,7 +4,6 @@ use Rattle.nav_types.specs.declared.cells.Size.{Size}
 use Rattle.nav_types.specs.Cells.{IsInside}
 use Rattle.landmarks.specs.Landmarks.{Tables, AreGentle}
 use Rattle.landmarks.specs.inner.Fields.{AreMarks, Spreads}
-use Rattle.landmarks.proofs.Marking.{Spreads-trans}
 use Rattle.landmarks.proofs.Gentle.{tables_of, known_marks, gentle_added, gentle_counted}
 use Rattle.landmarks.proofs.tables.Landmarks.add.Goals as goal
 
@@ -21,9 +20,8 @@ returns-clause-gentle g c = λ gentle.
     let within : (cell : Cell) → IsTrue (passes cell) → IsInside size cell = λ cell free.
     subst (λ (s : Size). IsInside s cell) sizes (g.met.V.View.within c.args.view.now c.args.class cell free) in
     let were : AreMarks passes size 0 size.h blank = subst (λ (s : Size). AreMarks passes s 0 s.h blank) sizes c.in_ok-blank_marks.ensures in
-    let both = Spreads-trans c.over-spread.result.marks.items c.next_landmark.new.spread.marks.items c.run.new.self.marks.items
-    c.in_ok-landmark.ensures.spreads c.in_ok-run.ensures.spreads in
-    let first : Spreads blank c.run.new.self.marks.items = subst (λ (m : List ℕ). Spreads m c.run.new.self.marks.items) c.over-spread.ensures both in
+    let first : Spreads blank c.spread_next.new.spread.marks.items =
+    subst (λ (m : List ℕ). Spreads m c.spread_next.new.spread.marks.items) c.over-spread.ensures c.in_ok-spread_next.ensures in
     let spreads : Spreads blank marks = subst (λ (m : List ℕ). Spreads blank m) (sym c.deref.ensures.value) first in
     let was : AreGentle passes (tables_of size inside.made old) = subst (λ (t : Tables). AreGentle passes t) (sym c.self.view_is) gentle in
     let room : inside.made < 8 = omega (arith, c.requires.room, ap (λ (t : Tables). t.made) c.self.view_is) in

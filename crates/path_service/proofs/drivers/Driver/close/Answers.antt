@@ -2,7 +2,7 @@ use Rattle.std.proofs.Common.{◌≡◌, ◌∙◌, map, sym, ap, subst}
 use Rattle.path_service.specs.Callers.{ended_id}
 use Rattle.path_service.specs.Services.{DriverState}
 use Rattle.path_service.specs.Closings.{IsClosedBy}
-use Rattle.path_service.specs.inner.Ports.{ids_from}
+use Rattle.path_service.specs.inner.Channels.{ids_from}
 use Rattle.path_service.specs.inner.Holding.{driver_of}
 use Rattle.path_service.proofs.ClosedLanes.{ports_of, is_closed}
 use Rattle.path_service.proofs.drivers.Driver.close.Goals as goal
@@ -10,12 +10,12 @@ use Rattle.path_service.proofs.drivers.Driver.close.Goals as goal
 pub close_all-callers-requires-clause-lanes : goal.close_all-callers-requires-clause-lanes
 close_all-callers-requires-clause-lanes g c =
     let a = c.self.inside in
-    ports_of 0 a.ports.items c.args.ended (c.requires.callers ∙ ap (λ (d : DriverState). d.callers) (sym c.self.view_is))
+    ports_of 0 a.channels.items c.args.ended (c.requires.callers ∙ ap (λ (d : DriverState). d.callers) (sym c.self.view_is))
 
 pub returns-clause-ok : goal.returns-clause-ok
 returns-clause-ok g c =
     let a = c.self.inside in
-    let ids : map ended_id c.args.ended ≡ ids_from 0 a.ports.items = c.requires.callers ∙ ap (λ (d : DriverState). d.callers) (sym c.self.view_is) in
+    let ids : map ended_id c.args.ended ≡ ids_from 0 a.channels.items = c.requires.callers ∙ ap (λ (d : DriverState). d.callers) (sym c.self.view_is) in
     let journal = c.from.ensures in
     let replies = c.from-2.ensures in
     let callers = c.close_all-callers.result in

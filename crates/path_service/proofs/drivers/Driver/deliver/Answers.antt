@@ -18,7 +18,7 @@ pub invariant_of-self : goal.invariant_of-self
 invariant_of-self g c =
     let a = c.self.inside in let run : AnsweredRun = c.in-Some.run' in
     let k = sends_of a _ run c.self.view_is c.requires.sound c.self.invariant c.in-Some.ensures.value in
-    let b : Inside = record a { ports = c.send_turn-sent.new.ports; running = Some run; journal = c.send_turn-sent.new.journal; replies = c.send_turn-sent.new.all; failed = true } in
+    let b : Inside = record a { channels = c.send_turn-sent.new.channels; running = Some run; journal = c.send_turn-sent.new.journal; replies = c.send_turn-sent.new.all; failed = true } in
     unsent_holds a b run c.in_default-sent.ensures.sends.0 k.holds k.sound k.is c.in_default-sent.ensures.sends.1.are_parts
     (sends_some_of a b run _ _ c.in_default-sent.ensures.sends.1 k.is refl c.in_default-sent.ensures.journal c.in_default-sent.ensures.all)
 
@@ -26,7 +26,7 @@ pub returns-in_default-sent-clause-refused : goal.returns-in_default-sent-clause
 returns-in_default-sent-clause-refused g c =
     let a = c.self.inside in let run : AnsweredRun = c.in-Some.run' in
     let k = sends_of a _ run c.self.view_is c.requires.sound c.self.invariant c.in-Some.ensures.value in
-    let b : Inside = record a { ports = c.send_turn-sent.new.ports; running = Some run; journal = c.send_turn-sent.new.journal; replies = c.send_turn-sent.new.all; failed = true } in
+    let b : Inside = record a { channels = c.send_turn-sent.new.channels; running = Some run; journal = c.send_turn-sent.new.journal; replies = c.send_turn-sent.new.all; failed = true } in
     subst (λ (d : DriverState). HasSentSome d (driver_of b)) c.self.view_is
     (has_sent_some a b run c.in_default-sent.ensures.sends.0 k.holds k.is c.in_default-sent.ensures.sends.1.are_parts
     (sends_some_of a b run _ _ c.in_default-sent.ensures.sends.1 k.is refl c.in_default-sent.ensures.journal c.in_default-sent.ensures.all))
@@ -35,7 +35,7 @@ pub invariant_of-self-2 : goal.invariant_of-self-2
 invariant_of-self-2 g c =
     let a = c.self.inside in let run : AnsweredRun = c.in-Some.run' in
     let k = sends_of a _ run c.self.view_is c.requires.sound c.self.invariant c.in-Some.ensures.value in
-    let b : Inside = record a { version = run.after; ports = c.send_turn-sent.new.ports; running = c.take.new.self; journal = c.push_reserved.new.self; replies = c.push_reserved-2.new.self } in
+    let b : Inside = record a { version = run.after; channels = c.send_turn-sent.new.channels; running = c.take.new.self; journal = c.push_reserved.new.self; replies = c.push_reserved-2.new.self } in
     delivered_holds a b run k.holds k.sound k.is
     (delivers_by a b run _ _ _ c.in-Ok.ensures.sends.1 refl c.in-Some.ensures.after c.in-Ok.ensures.journal c.push_reserved.ensures.items c.in-Ok.ensures.all c.push_reserved-2.ensures.items)
 
@@ -43,7 +43,7 @@ pub returns-clause-ok : goal.returns-clause-ok
 returns-clause-ok g c =
     let a = c.self.inside in let run : AnsweredRun = c.in-Some.run' in
     let k = sends_of a _ run c.self.view_is c.requires.sound c.self.invariant c.in-Some.ensures.value in
-    let b : Inside = record a { version = run.after; ports = c.send_turn-sent.new.ports; running = c.take.new.self; journal = c.push_reserved.new.self; replies = c.push_reserved-2.new.self } in
+    let b : Inside = record a { version = run.after; channels = c.send_turn-sent.new.channels; running = c.take.new.self; journal = c.push_reserved.new.self; replies = c.push_reserved-2.new.self } in
     subst (λ (d : DriverState). HasDelivered d (driver_of b)) c.self.view_is
     (has_delivered a b run k.holds k.sound k.is
     (delivers_by a b run _ _ _ c.in-Ok.ensures.sends.1 refl c.in-Some.ensures.after c.in-Ok.ensures.journal c.push_reserved.ensures.items c.in-Ok.ensures.all c.push_reserved-2.ensures.items))

@@ -4,7 +4,7 @@ use Rattle.path_service.proofs.NewDrivers.{made_of, driver_is, driver_holds}
 use Rattle.path_service.proofs.drivers.Driver.new.Goals as goal
 
 pub invariant_of-result : goal.invariant_of-result
-invariant_of-result c = driver_holds _ (made_of _ c.requires.map c.requires.standing c.requires.count c.requires.ports c.requires.hands refl (refl, refl) c.new.ensures.items c.new-2.ensures.items refl)
+invariant_of-result c = driver_holds _ (made_of _ c.requires.map c.requires.standing c.requires.count c.requires.channels c.requires.all_pending refl (refl, refl) c.new.ensures.items c.new-2.ensures.items refl)
 
 pub returns : goal.returns
 returns c =
@@ -12,8 +12,8 @@ returns c =
       alloc = c.args.alloc;
       map = c.args.map;
       version = c.args.version;
-      ports = c.args.ports;
-      hands = c.args.hands;
+      channels = c.args.channels;
+      all_pending = c.args.all_pending;
       staged = None;
       running = None;
       broken = None;
@@ -21,4 +21,4 @@ returns c =
       replies = c.new-2.result;
       failed = false;
     } in
-    driver_is a (made_of a c.requires.map c.requires.standing c.requires.count c.requires.ports c.requires.hands refl (refl, refl) c.new.ensures.items c.new-2.ensures.items refl)
+    driver_is a (made_of a c.requires.map c.requires.standing c.requires.count c.requires.channels c.requires.all_pending refl (refl, refl) c.new.ensures.items c.new-2.ensures.items refl)

@@ -15,7 +15,6 @@ returns-clause-ok c =
       refl,
       ap (λ (l : List (List Post)). record (state_of a) { posted = l })
           (c.in_ok-push_post.ensures.ok
-          ∙ ap (λ (i : ℕ). slice_set lists i (list_of lists i ++ c.copy.result ∷ [])) c.from.ensures
-          ∙ ap (λ (p : Post). slice_set lists caller (list_of lists caller ++ p ∷ [])) c.copy.ensures)
+          ∙ ap (λ (i : ℕ). slice_set lists i (list_of lists i ++ c.args.post.now ∷ [])) c.from.ensures)
           ∙ ap (λ (s : State). posted s caller c.args.post.now) c.self.view_is,
     )

@@ -1,0 +1,16 @@
+use Rattle.std.proofs.Common.{◌≡◌, ◌≤◌, ◌-◌, length}
+use Rattle.std.specs.Prelude.{slice_index}
+use Rattle.chunk_regions.specs.declared.label_spans.Place.{Place}
+use Rattle.chunk_regions.specs.inner.Joining.{Overlap, AreUnited, AreBounded, KeepsGroups}
+use Rattle.chunk_regions.proofs.label_spans.number_row.Given as goal
+
+abbrev pub invariant-loop-at : goal.invariant-loop-at
+invariant-loop-at l = record {
+  next : length l.all.regions.items ≡ l.at;
+  bounded : AreBounded l.all.regions.items l.all.firsts.items;
+  united : AreUnited l.rows l.all.regions.items l.at;
+  from : slice_index l.rows.starts (l.row - 1) ≤ l.south;
+  to : l.south ≤ l.start;
+  passed : (s n : Place) → Overlap l.rows s n → n.row ≡ l.row → l.at ≤ n.at → l.south ≤ s.at;
+  groups : KeepsGroups l.chunk l.rows l.initial.all.regions.items l.initial.all.firsts.items l.all.regions.items l.all.firsts.items;
+}

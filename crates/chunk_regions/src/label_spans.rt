@@ -1,0 +1,232 @@
+//! The labelling of a chunk: its spans in row order, and regions renumbered where two of them meet.
+ghost use Rattle.std.specs.Prelude.{ℕ, Bool, ◌≡◌, ◌+◌, ◌-◌, ◌*◌, ◌/◌, ◌<◌, ◌≤◌, [], ◌∷◌, ◌++◌, length, map, remove, OnOk, IfOk, Some, slice_get, slice_index};
+ghost use Rattle.nav_types.specs.declared.cells.Cell.{Cell};
+ghost use Rattle.nav_types.specs.declared.cells.Chunk.{Chunk};
+ghost use Rattle.nav_types.specs.declared.limits.TheConstants.{CHUNK_SIDE, CHUNK_CELLS, MAX_CHUNKS_ALONG};
+ghost use Rattle.nav_types.specs.Cells.{cell_at};
+ghost use Rattle.chunk_regions.specs.declared.spans.Span.{Span};
+ghost use Rattle.chunk_regions.specs.inner.Spans.{Runs, IsPlace, IsCut, region_of};
+ghost use Rattle.chunk_regions.specs.inner.Joining.{Overlap, Reach, MeetsTo, AreUnited, KeepsOne, AreBounded, KeepsGroups, IsNumbered, number_after};
+
+use crate::spans::{RowSpans, Span};
+use nav_types::limits::CHUNK_SIDE;
+use nav_types::{Cell, Chunk, NoMemory};
+use std::alloc::Global;
+
+/// A span of a chunk: its row, and its place among the spans of all rows.
+#[derive(Clone, Copy)]
+pub struct Place {
+    pub row: u16,
+    pub at: usize,
+}
+
+/// The regions of the spans, and the first cells of all regions in order.
+#[derive(Drop)]
+pub struct Numbered {
+    pub regions: Vec<u16>,
+    pub firsts: Vec<Cell>,
+}
+
+/// The number of a region once regions `a` and `b` are one, which keeps the lower number `a`.
+#[inline(always)]
+fn renumbered(region: u16, a: u16, b: u16) -> u16
+    ensures { result ≡ number_after a b region }
+{
+    if region == b {
+        a
+    } else if b < region {
+        region - 1
+    } else {
+        region
+    }
+}
+
+/// Makes one region of two, whose first cell is that of the one with the lower number `a`.
+#[inline(never)]
+fn unite(all: &mut Numbered, a: u16, b: u16)
+    requires order { a < b }
+    requires within { b ≤ length all.old.firsts.items }
+    ensures regions { all.new.regions.items ≡ map (number_after a b) all.old.regions.items }
+    ensures firsts { all.new.firsts.items ≡ remove all.old.firsts.items (b - 1) }
+{
+    for region in all.regions.iter_mut() {
+        *region = renumbered(*region, a, b);
+    }
+    all.firsts.remove(b as usize - 1);
+}
+
+/// Makes one region of those of two spans that overlap.
+#[inline(always)]
+fn join(all: &mut Numbered, south: usize, north: usize)
+    requires south { south < length all.old.regions.items }
+    requires north { north < length all.old.regions.items }
+    requires bounded { AreBounded all.old.regions.items all.old.firsts.items }
+    ensures length { length all.new.regions.items ≡ length all.old.regions.items }
+    ensures bounded { AreBounded all.new.regions.items all.new.firsts.items }
+    ensures kept { KeepsOne all.old.regions.items all.new.regions.items }
+    ensures met { slice_index all.new.regions.items south ≡ slice_index all.new.regions.items north }
+    ensures groups { (chunk : Chunk) (runs : Runs) (s n : Place) → Overlap runs s n → s.at ≡ south → n.at ≡ north
+        → KeepsGroups chunk runs all.old.regions.items all.old.firsts.items all.new.regions.items all.new.firsts.items }
+{
+    let a = all.regions[south];
+    let b = all.regions[north];
+    if a < b {
+        unite(all, a, b);
+    } else if b < a {
+        unite(all, b, a);
+    }
+}
+
+/// Joins the newest span with those from a place on that it overlaps in the row before.
+#[inline(always)]
+fn join_rest(rows: &RowSpans, all: &mut Numbered, place: Place, span: Span, from: usize, end: usize)
+    requires place { IsPlace rows.now place }
+    requires span { slice_get rows.now.spans place.at ≡ Some span }
+    requires from { slice_index rows.now.starts (place.row - 1) ≤ from }
+    requires end { end ≡ slice_index rows.now.starts place.row }
+    requires next { length all.old.regions.items ≡ place.at + 1 }
+    requires bounded { AreBounded all.old.regions.items all.old.firsts.items }
+    requires reach { Reach rows.now span.first from end }
+    requires met { MeetsTo rows.now all.old.regions.items place from }
+    ensures length { length all.new.regions.items ≡ length all.old.regions.items }
+    ensures bounded { AreBounded all.new.regions.items all.new.firsts.items }
+    ensures kept { KeepsOne all.old.regions.items all.new.regions.items }
+    ensures met { MeetsTo rows.now all.new.regions.items place end }
+    ensures groups { (chunk : Chunk) → KeepsGroups chunk rows.now all.old.regions.items all.old.firsts.items
+        all.new.regions.items all.new.firsts.items }
+{
+    for south in from..end {
+        // the spans of a row rise, so none from here on overlaps
+        if span.last < rows.span(south).first {
+            return;
+        }
+        join(all, south, place.at);
+    }
+}
+
+/// Gives the newest span a region of its own: its first cell is then the region's first.
+#[inline(always)]
+fn begin(all: &mut Numbered, chunk: Chunk, place: Place, span: Span) -> Result<(), NoMemory>
+    requires column { chunk.ci < MAX_CHUNKS_ALONG }
+    requires row { chunk.cj < MAX_CHUNKS_ALONG }
+    requires here { place.row < CHUNK_SIDE }
+    requires few { length all.old.firsts.items < CHUNK_CELLS / 2 }
+    ensures regions { OnOk result (all.new.regions.items
+        ≡ all.old.regions.items ++ (length all.old.firsts.items + 1) ∷ []) }
+    ensures firsts { OnOk result (all.new.firsts.items
+        ≡ all.old.firsts.items ++ cell_at (CHUNK_SIDE * chunk.ci + span.first) (CHUNK_SIDE * chunk.cj + place.row) ∷ []) }
+{
+    all.firsts.push(Cell::new(
+        chunk.ci * CHUNK_SIDE + u16::from(span.first),
+        chunk.cj * CHUNK_SIDE + place.row,
+    ))?;
+    all.regions.push(all.firsts.len() as u16)?;
+    Ok(())
+}
+
+/// Gives the next span its region, where those of the row before that it overlaps stand from `south` on.
+#[inline(always)]
+fn number_span(
+    rows: &RowSpans,
+    all: &mut Numbered,
+    chunk: Chunk,
+    place: Place,
+    south: usize,
+    end: usize,
+) -> Result<(), NoMemory>
+    requires place { IsPlace rows.now place }
+    requires column { chunk.ci < MAX_CHUNKS_ALONG }
+    requires row { chunk.cj < MAX_CHUNKS_ALONG }
+    requires from { slice_index rows.now.starts (place.row - 1) ≤ south }
+    requires to { south ≤ end }
+    requires end { end ≡ slice_index rows.now.starts place.row }
+    requires reach { (span : Span) → slice_get rows.now.spans place.at ≡ Some span → Reach rows.now span.first south end }
+    requires passed { (s : Place) → Overlap rows.now s place → south ≤ s.at }
+    requires next { length all.old.regions.items ≡ place.at }
+    requires bounded { AreBounded all.old.regions.items all.old.firsts.items }
+    requires united { AreUnited rows.now all.old.regions.items place.at }
+    ensures length { OnOk result (length all.new.regions.items ≡ place.at + 1) }
+    ensures bounded { OnOk result (AreBounded all.new.regions.items all.new.firsts.items) }
+    ensures united { OnOk result (AreUnited rows.now all.new.regions.items (place.at + 1)) }
+    ensures groups { OnOk result (KeepsGroups chunk rows.now all.old.regions.items all.old.firsts.items
+        all.new.regions.items all.new.firsts.items) }
+{
+    let span = rows.span(place.at);
+    if south == end || span.last < rows.span(south).first {
+        begin(all, chunk, place, span)?;
+        return Ok(());
+    }
+    let region = all.regions[south];
+    all.regions.push(region)?;
+    join_rest(rows, all, place, span, south + 1, end);
+    Ok(())
+}
+
+/// The first of a row's spans from a place on that reaches the column, or the row's end.
+#[inline(always)]
+fn first_reaching(rows: &RowSpans, from: usize, end: usize, column: u8) -> usize
+    requires order { from ≤ end }
+    requires within { end ≤ length rows.now.spans }
+    ensures from { from ≤ result }
+    ensures to { result ≤ end }
+    ensures short { (k : ℕ) (span : Span) → from ≤ k → k < result → slice_get rows.now.spans k ≡ Some span
+        → span.last < column }
+    ensures reaches { (span : Span) → result < end → slice_get rows.now.spans result ≡ Some span → column ≤ span.last }
+{
+    for at in from..end {
+        if column <= rows.span(at).last {
+            return at;
+        }
+    }
+    end
+}
+
+/// Gives the spans of one row their regions, side by side with those of the row before.
+#[inline(always)]
+fn number_row(rows: &RowSpans, all: &mut Numbered, chunk: Chunk, row: u16) -> Result<(), NoMemory>
+    requires here { row < CHUNK_SIDE }
+    requires column { chunk.ci < MAX_CHUNKS_ALONG }
+    requires row { chunk.cj < MAX_CHUNKS_ALONG }
+    requires next { length all.old.regions.items ≡ slice_index rows.now.starts row }
+    requires bounded { AreBounded all.old.regions.items all.old.firsts.items }
+    requires united { AreUnited rows.now all.old.regions.items (slice_index rows.now.starts row) }
+    ensures length { OnOk result (length all.new.regions.items ≡ slice_index rows.now.starts (row + 1)) }
+    ensures bounded { OnOk result (AreBounded all.new.regions.items all.new.firsts.items) }
+    ensures united { OnOk result (AreUnited rows.now all.new.regions.items (slice_index rows.now.starts (row + 1))) }
+    ensures groups { OnOk result (KeepsGroups chunk rows.now all.old.regions.items all.old.firsts.items
+        all.new.regions.items all.new.firsts.items) }
+{
+    let (start, end) = rows.row(row);
+    // before the first row there is none, and `south` is where its own spans begin
+    let (mut south, _) = rows.row(row.saturating_sub(1));
+    for at in start..end {
+        south = first_reaching(rows, south, start, rows.span(at).first);
+        number_span(rows, all, chunk, Place { row, at }, south, start)?;
+    }
+    Ok(())
+}
+
+/// Numbers the regions of all spans.
+pub fn number_all(alloc: Global, chunk: Chunk, rows: &RowSpans) -> Result<Numbered, NoMemory>
+    requires column { chunk.ci < MAX_CHUNKS_ALONG }
+    requires row { chunk.cj < MAX_CHUNKS_ALONG }
+    ensures regions { IfOk result (λ all. length all.regions.items ≡ length rows.now.spans) }
+    ensures few { IfOk result (λ all. length all.firsts.items ≤ CHUNK_CELLS / 2) }
+    ensures bounded { IfOk result (λ all. AreBounded all.regions.items all.firsts.items) }
+    ensures numbered { IfOk result (λ all. (passes : Cell → Bool) → IsCut passes chunk rows.now
+        → IsNumbered passes (region_of chunk rows.now all.regions.items) all.firsts.items) }
+{
+    let mut all = Numbered {
+        regions: Vec::with_capacity(alloc, rows.len())?,
+        firsts: Vec::new(alloc),
+    };
+    for row in 0..CHUNK_SIDE {
+        number_row(rows, &mut all, chunk, row)?;
+    }
+    // the first cells are kept in no more room than they fill
+    let firsts = Vec::from_slice(alloc, &all.firsts)?;
+    Ok(Numbered {
+        regions: all.regions,
+        firsts,
+    })
+}

@@ -1,0 +1,16 @@
+use Rattle.std.proofs.Common.{ℕ, ◌+◌, IsFalse, length}
+use Rattle.match_play.specs.Playing.{Plays}
+use Rattle.match_play.specs.inner.Fitting.{IsFit, IsGoing}
+use Rattle.match_play.proofs.match_states.read_on.Given as goal
+
+abbrev pub invariant-items : goal.invariant-items
+invariant-items g l = record {
+  plays : Plays l.fn.match_state l.match_state l.fn.bytes.now l.bytes.now;
+  takes : (count : ℕ) → g.A.Answerer.takes l.answerer count;
+  fit : IsFit l.match_state;
+  going : IsGoing l.match_state.next_item;
+  unended : IsFalse l.match_state.ended;
+}
+
+abbrev pub decreases-items : goal.decreases-items
+decreases-items g l = length l.match_state.script.bytes + length l.bytes.now

@@ -1,7 +1,0 @@
-use Rattle.std.proofs.Common.{List}
-use Rattle.posts.specs.declared.posts.Post.{Post}
-use Rattle.path_service.proofs.LaneSteps.{FilledFirst}
-use Rattle.path_service.proofs.ports.fill_all.Given as goal
-
-abbrev pub invariant-loop-caller : goal.invariant-loop-caller
-invariant-loop-caller g l = (got : List (List Post)) × FilledFirst l.fn.ports.items l.ports.items l.fn.hands.items l.hands.items l.room l.caller l.left got
