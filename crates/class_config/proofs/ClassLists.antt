@@ -1,8 +1,7 @@
 -- Lists of classes: what is found by name, and what is read of items.
-use Rattle.std.proofs.Common.{◌≡◌, ◌≢◌, ℕ, zero, suc, ◌+◌, ◌++◌, ◌&&◌, ◌||◌, List, [], ◌∷◌, length, map, Bool, true, false, Option, Some, None, is_some, option_map, option_and_then, nat_le, cond, Result, Ok, Err, IfOk, IsErrOf, refl, ap, sym, ◌∙◌, ℤ}
-use Rattle.std.specs.Prelude.{All, bytes_eq, codes, slice_get, ◌↔◌, position}
-use Rattle.std.specs.List.{list_all, list_any, filter_map, cons_option, position_from}
-use Rattle.std.specs.Option.{option_map_or}
+use Rattle.std.proofs.Common.{◌≡◌, ◌≢◌, ℕ, suc, ◌+◌, ◌++◌, ◌&&◌, List, [], ◌∷◌, length, map, Bool, true, false, Option, Some, None, is_some, option_map, option_and_then, nat_le, cond, Result, Ok, Err, IfOk, IsErrOf, refl, ap, sym, ◌∙◌, ℤ}
+use Rattle.std.specs.Prelude.{All, bytes_eq, codes, ◌↔◌, position}
+use Rattle.std.specs.List.{list_all, filter_map, cons_option, position_from}
 use Rattle.std.proofs.lemmas.Bool.{and_from, and_parts}
 use Rattle.std.proofs.lemmas.Slice.Eq.{bytes_eq-Decides}
 use Rattle.std.proofs.lemmas.List.Elements.{All-head, All-tail, All-cons, All-nil, filter_map-append}
@@ -21,16 +20,6 @@ use Rattle.class_config.specs.Forms.{has_keys, text_under, is_class_name}
 use Rattle.class_config.specs.Classes.{is_class, is_clearance, class_of, class_with, clearance_under, are_distinct, is_table, list_of, are_classes, classes_of}
 
 -- ---- tests
-
--- the second of two tests decides where the first holds
-pub and_second : (a b r : Bool) → a ≡ true → (a && b) ≡ r → b ≡ r
-and_second true b r h e = e
-and_second false b r h e = absurd (cc)
-
--- the first of two tests decides where it fails
-pub and_first : (a b r : Bool) → a ≡ false → (a && b) ≡ r → a ≡ r
-and_first true b r h e = absurd (cc)
-and_first false b r h e = e
 
 -- ---- finding by name
 
@@ -66,14 +55,6 @@ position-none name classes =
     (λ none. no_place name classes 0 (ap is_some (sym same) ∙ none), λ none. ap is_some same ∙ no_place-from name classes 0 none)
 
 -- ---- what is read of items
-
-list_any-filter_map : {X Y : Type 0} (p : Y → Bool) (f : X → Option Y) (xs : List X) → list_any p (filter_map f xs) ≡ list_any (λ x. option_map_or p (f x) false) xs
-list_any-filter_map p f [] = refl
-list_any-filter_map {X} {Y} p f (x ∷ xs) = by_first (f x) (list_any-filter_map p f xs)
-  where
-    by_first : (o : Option Y) {rest : Bool} → list_any p (filter_map f xs) ≡ rest → list_any p (cons_option o (filter_map f xs)) ≡ (option_map_or p o false || rest)
-    by_first None e = e
-    by_first (Some y) e = ap (λ r. p y || r) e
 
 filter_map-map : {X Y Z : Type 0} (f : Y → Option Z) (h : X → Y) (xs : List X) → filter_map f (map h xs) ≡ filter_map (λ x. f (h x)) xs
 filter_map-map f h [] = refl
@@ -141,19 +122,6 @@ is_table-filter_map items each =
     list_all-filter_map is_class class_of is_class-class_of items ∙ sym each in
     ap (λ n. few n && list_all is_class classes && are_distinct classes) (length-filter_map class_of items each)
     ∙ ap (λ t. few (length items) && t && are_distinct classes) passed
-
-list_all-slice_get : {X : Type 0} (p : X → Bool) (xs : List X) (k : ℕ) (x : X) → list_all p xs ≡ true → slice_get xs k ≡ Some x → p x ≡ true
-list_all-slice_get p [] k x each is = absurd (cc)
-list_all-slice_get p (y ∷ ys) zero x each is = let same : y ≡ x = cc in ap p (sym same) ∙ (and_parts (p y) (list_all p ys) each).0
-list_all-slice_get p (y ∷ ys) (suc k) x each is = list_all-slice_get p ys k x (and_parts (p y) (list_all p ys) each).1 is
-
--- each class of a table is one that a map may have
-pub is_class-slice_get : (classes : List PassabilityClass) (k : ℕ) (class : PassabilityClass) → is_table classes ≡ true → slice_get classes k ≡ Some class
-    → is_class class ≡ true
-is_class-slice_get classes k class table is =
-    let few = nat_le 1 (length classes) && nat_le (length classes) 16 in
-    let first = and_parts (few && list_all is_class classes) (are_distinct classes) table in
-    list_all-slice_get is_class classes k class (and_parts few (list_all is_class classes) first.0).1 is
 
 -- the clearance of such a class is from 0 to 64 navcells
 pub is_clearance-is_class : (class : PassabilityClass) → is_class class ≡ true → is_clearance class.clearance ≡ true

@@ -167,10 +167,6 @@ flag_one : (flag : Bool) → IsTrue flag → one_if flag ≡ 1
 flag_one true is = refl
 flag_one false is = absurd (false≢true is)
 
-flag_small : (flag : Bool) → one_if flag < 2
-flag_small true = omega arith
-flag_small false = omega arith
-
 free_to : (passes : Cell → Bool) (dir : Dir) (c next : Cell) → Leads dir c next → IsFreeBeside passes c dir
     → IsTrue (passes next)
 free_to passes dir c next leads free =

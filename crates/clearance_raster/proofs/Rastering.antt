@@ -3,7 +3,7 @@ use Rattle.std.proofs.Common.{◌≡◌, ℕ, ◌+◌, ◌<◌, ◌≤◌, ⊎_e
 use Rattle.std.specs.Prelude.{bit_or, nat_lt, IsTrue, IsFalse, ◌↔◌}
 use Rattle.std.specs.Int.{bit_at}
 use Rattle.std.proofs.lemmas.Nat.Bits.{bit_at_or, bit_at-lt}
-use Rattle.std.proofs.lemmas.Bool.{cases_lt, cases_eq, cases_Bool, both_ways, eq-eqb, ne_eqb, lt-ltb, le-ltb, and_right}
+use Rattle.std.proofs.lemmas.Bool.{cases_lt, cases_eq, cases_Bool, both_ways, eq-eqb, ne_eqb, le-ltb}
 use Rattle.std.proofs.Math.Nat.{max-zero}
 use Rattle.nav_types.specs.declared.cells.Cell.{Cell}
 use Rattle.nav_types.specs.declared.cells.Rect.{Rect}
@@ -11,9 +11,9 @@ use Rattle.nav_types.specs.declared.cells.Size.{Size}
 use Rattle.nav_types.specs.Cells.{cell_at, IsInside, IsInRect}
 use Rattle.nav_types.proofs.NumberTies.{below_next}
 use Rattle.lane_rows.specs.Rows.{has_class, one_if}
-use Rattle.navcell_grid.specs.Grids.{GridCells, number_at, IsInSpan}
+use Rattle.navcell_grid.specs.Grids.{IsInSpan}
 use Rattle.nav_types.specs.Rects.{IsPartOf}
-use Rattle.clearance_raster.specs.inner.TestRasters.{IsRaster, IsRasterIn}
+use Rattle.clearance_raster.specs.inner.TestRasters.{IsRasterIn}
 
 -- a test of classes and cells
 abbrev pub Test : Type 0
@@ -52,25 +52,6 @@ bit_alike : (old new k : ℕ) (x y : Bool) → x ≡ y → bit_at new k ≡ max 
 bit_alike old new k x y alike is = is ∙ ap (λ f. max (bit_at old k) (one_if f)) alike
 
 -- ---- rasters of whole grids
-
--- a grid that stays is the raster of a test that nothing meets
-pub raster_none : (t : Test) (a : GridCells) → Agree a.size t (λ _ _. false) → IsRaster t a a
-raster_none t a none = record { size = refl; bits = λ cell k inside. stays_bit (number_at a cell) (number_at a cell) k (t k cell) refl (none k cell inside) }
-
--- rasters one after another
-pub raster_both : (s t : Test) (a b c : GridCells) → IsRaster s a b → IsRaster t b c → IsRaster (λ k cell. s k cell || t k cell) a c
-raster_both s t a b c one two = record {
-  size = two.size ∙ one.size;
-  bits = λ cell k inside. bit_both (number_at a cell) (number_at b cell) (number_at c cell) k (s k cell) (t k cell) (one.bits cell k inside)
-      (two.bits cell k (subst (λ (size : Size). IsInside size cell) (sym one.size) inside));
-}
-
--- the raster of another test that says the same
-pub raster_alike : (s t : Test) (a b : GridCells) → ((k : ℕ) (cell : Cell) → s k cell ≡ t k cell) → IsRaster s a b → IsRaster t a b
-raster_alike s t a b alike is = record {
-  size = is.size;
-  bits = λ cell k inside. bit_alike (number_at a cell) (number_at b cell) k (s k cell) (t k cell) (alike k cell) (is.bits cell k inside);
-}
 
 -- ---- rasters of a part of a rectangle of cells
 
@@ -230,23 +211,3 @@ rows_none rect part reach mask hit a reached =
     ap (λ f. has_class k mask && f && hit cell) (le-ltb cell.j reach.j0 south) ∙ middle_false (has_class k mask) (hit cell))
     (λ (fails : hit cell ≡ false). ap (λ f. has_class k mask && nat_lt cell.j reach.j0 && f) fails ∙ and_false (has_class k mask) (nat_lt cell.j reach.j0))
     (cases_Bool (hit cell)))
-
-middle_true : (p z : Bool) → (p && true && z) ≡ (p && z)
-middle_true true z = refl
-middle_true false z = refl
-
--- all rows that are reached
-pub rows_all : (rect part reach : Rect) (mask j : ℕ) (hit : Cell → Bool) (a b : Numbers) → j ≡ reach.j1 + 1
-    → ((cell : Cell) → IsInRect part cell → IsTrue (hit cell) → IsInRect reach cell)
-    → IsRasterIn rect part (RowsTest mask j hit) a b → IsRasterIn rect part (λ k cell. has_class k mask && hit cell) a b
-rows_all rect part reach mask j hit a b last reached rows =
-    part_alike rect part (RowsTest mask j hit) (λ k cell. has_class k mask && hit cell) a b
-    (λ k cell inside. ⊎_elim
-    (λ (holds : hit cell ≡ true).
-    let north = (reached cell inside holds).north in
-    ap (λ f. has_class k mask && f && hit cell) (lt-ltb cell.j j (omega arith)) ∙ middle_true (has_class k mask) (hit cell))
-    (λ (fails : hit cell ≡ false).
-    ap (λ f. has_class k mask && nat_lt cell.j j && f) fails ∙ and_false (has_class k mask) (nat_lt cell.j j)
-    ∙ sym (and_right (has_class k mask) (hit cell) fails))
-    (cases_Bool (hit cell)))
-    rows

@@ -24,9 +24,6 @@ none_at name (class ∷ classes) zero none e =
     let same : class.name ≡ name = cc in All-head (λ (other : PassabilityClass). other.name ≢ name) class classes none same
 none_at name (class ∷ classes) (suc number) none e = none_at name classes number (All-tail (λ (other : PassabilityClass). other.name ≢ name) class classes none) e
 
-pub no_number : (name : List ℕ) (classes : List PassabilityClass) → All (λ class. class.name ≢ name) classes → (number : ℕ) → name_at classes number ≡ Some name → ⊥
-no_number name classes none number e = none_at name classes number none e
-
 -- the class at the place that is found has the name
 found_from : (name : List ℕ) (classes : List PassabilityClass) (i place : ℕ) → position_from (λ class. bytes_eq class.name name) i classes ≡ Some place
     → (number : ℕ) × ((place ≡ i + number) × (name_at classes number ≡ Some name))

@@ -1,6 +1,6 @@
 -- A flat form reads as its post, whatever the caller, and so a flat post is one post of one caller.
 use Rattle.std.proofs.Common.{◌≡◌, ℕ, List, Option, Some, None, refl, ap, sym, ◌∙◌, Bool, true, false, cond}
-use Rattle.std.specs.Prelude.{◌==◌, option_map, option_and_then}
+use Rattle.std.specs.Prelude.{option_map, option_and_then}
 use Rattle.class_config.specs.declared.table.PassabilityClass.{PassabilityClass}
 use Rattle.class_config.specs.Classes.{name_at}
 use Rattle.goal_shapes.specs.declared.goals.Goal.TheVariants.{Point, Circle, NotCircle, Square as SquareGoal, NotSquare}
@@ -16,9 +16,8 @@ use Rattle.posts.specs.declared.posts.Request.{Request}
 use Rattle.posts.specs.declared.posts.Request.TheVariants.{Path, Region}
 use Rattle.posts.specs.Maps.{Map}
 use Rattle.flat_posts.specs.declared.posted.FlatPost.{FlatPost}
-use Rattle.flat_posts.specs.declared.post_kinds.TheConstants.{PATH, REGION}
-use Rattle.flat_posts.specs.Posts.{IsPost, HasClass, flat_post, flat_edit, flat_add, flat_request, asked_class, with_goal}
-use Rattle.flat_posts.specs.inner.Reading.{HasSameNumbers, HasSamePlaces, HasSameShape, edit_in, request_in, goal_in, post_in, post_from}
+use Rattle.flat_posts.specs.Posts.{IsPost, HasClass, flat_post, flat_edit, flat_add, flat_request, asked_class}
+use Rattle.flat_posts.specs.inner.Reading.{HasSameNumbers, HasSamePlaces, HasSameShape, edit_in, request_in, post_in, post_from}
 
 -- ---- each form reads back
 
@@ -30,15 +29,6 @@ pub edit_in-flat_edit : (caller : ℕ) (edit : Edit) → edit_in (flat_edit call
 edit_in-flat_edit caller (Add id obstruction) = edit_in-flat_add caller id obstruction.mask obstruction.shape
 edit_in-flat_edit caller (Remove id) = refl
 edit_in-flat_edit caller (Move id x z) = refl
-
--- a flat post with a goal reads as the goal, and is else as it was
-goal_in-with_goal : (flat : FlatPost) (goal : GoalSpec) → goal_in (with_goal flat goal) ≡ Some goal
-goal_in-with_goal flat (Plain (Point x z)) = refl
-goal_in-with_goal flat (Plain (Circle x z r)) = refl
-goal_in-with_goal flat (Plain (NotCircle x z r)) = refl
-goal_in-with_goal flat (Plain (SquareGoal r)) = refl
-goal_in-with_goal flat (Plain (NotSquare r)) = refl
-goal_in-with_goal flat (AboutObstruction id grow) = refl
 
 no_edit : (caller class : ℕ) (request : Request) → edit_in (flat_request caller class request) ≡ None
 no_edit caller class (Path name x z (Plain (Point gx gz))) = refl
@@ -113,24 +103,6 @@ asked_from true region None flat name request e = absurd (cc)
 asked_from true region (Some g) flat name request e = let same : Path name flat.x flat.z g ≡ request = cc in ap asked_class (sym same)
 asked_from false true goal flat name request e = let same : Region name flat.x flat.z ≡ request = cc in ap asked_class (sym same)
 asked_from false false goal flat name request e = absurd (cc)
-
--- what is read is of the class of the number
-HasClass-parts : (classes : List PassabilityClass) (flat : FlatPost) (edit : Option Edit) (name : Option (List ℕ)) (post : Post)
-    → name_at classes flat.class_number ≡ name → post_from edit (option_and_then (request_in flat) name) ≡ Some post → HasClass classes flat.class_number post
-HasClass-parts classes flat (Some edit) name (Editing e) is read = tt
-HasClass-parts classes flat (Some edit) name (Asking e) is read = absurd (cc)
-HasClass-parts classes flat None None post is read = absurd (cc)
-HasClass-parts classes flat None (Some name) (Editing e) is read = tt
-HasClass-parts classes flat None (Some name) (Asking request) is read =
-    by_request (request_in flat name) (λ r e. asked_from (flat.kind == PATH) (flat.kind == REGION) (goal_in flat) flat name r e) read
-  where
-    by_request : (found : Option Request) → ((r : Request) → found ≡ Some r → asked_class r ≡ name) → option_map Asking found ≡ Some (Asking request)
-        → name_at classes flat.class_number ≡ Some (asked_class request)
-    by_request None tells e = absurd (cc)
-    by_request (Some r) tells e = let same : r ≡ request = cc in is ∙ ap Some (sym (tells r refl) ∙ ap asked_class same)
-
-pub HasClass-post_in : (classes : List PassabilityClass) (flat : FlatPost) (post : Post) → post_in classes flat ≡ Some post → HasClass classes flat.class_number post
-HasClass-post_in classes flat post read = HasClass-parts classes flat (edit_in flat) (name_at classes flat.class_number) post refl read
 
 -- ---- two flat posts with the same fields are one
 

@@ -1,16 +1,12 @@
 -- The replies and the waypoints of a turn or to posts, one item more.
-use Rattle.std.proofs.Common.{◌≡◌, ℕ, suc, ◌+◌, ◌-◌, ◌<◌, List, [], ◌∷◌, ◌++◌, length, take, get_or, ap, sym, ◌∙◌, append_assoc, arith, min, refl}
-use Rattle.std.specs.Prelude.{◌^◌, sum_by}
+use Rattle.std.proofs.Common.{◌≡◌, ℕ, suc, ◌+◌, ◌-◌, ◌<◌, List, [], ◌∷◌, ◌++◌, length, take, get_or, ap, sym, ◌∙◌, append_assoc, arith, refl}
+use Rattle.std.specs.Prelude.{sum_by}
 use Rattle.std.proofs.lemmas.List.{take_more, append-nil, length-take-le}
 use Rattle.std.proofs.lemmas.List.Sums.{sum_by_push, sum_by-cons}
 use Rattle.posts.specs.declared.replies.Reply.{Reply}
 use Rattle.flat_posts.specs.declared.posted.FlatPost.{FlatPost}
 use Rattle.flat_posts.specs.declared.replied.FlatReply.{FlatReply}
 use Rattle.flat_posts.specs.Replies.{in_bits, flat_reply, waypoint_count, caller_replies, replies_from, replies_at, replies_to}
-
--- so many more in 64 bits
-pub in_bits-more : (count all more : ℕ) → count ≡ in_bits 64 all → min (count + more) (2 ^ 64 - 1) ≡ in_bits 64 (all + more)
-in_bits-more count all more e = omega (arith, e)
 
 -- one item more in a sum
 pub sum_by-more : {X : Type 0} (f : X → ℕ) (xs : List X) (i : ℕ) (x : X) → i < length xs → x ≡ get_or xs i x → sum_by f (take (i + 1) xs) ≡ sum_by f (take i xs) + f x

@@ -1,5 +1,5 @@
 -- Buffers that are filled cell by cell.
-use Rattle.std.proofs.Common.{ℕ, ◌≡◌, ◌+◌, ◌*◌, ◌<◌, ◌≤◌, inl, inr, List, length, get_or, refl, sym, subst, ◌∙◌, arith}
+use Rattle.std.proofs.Common.{ℕ, ◌≡◌, ◌+◌, ◌*◌, ◌<◌, ◌≤◌, inl, inr, List, length, get_or, sym, subst, ◌∙◌, arith}
 use Rattle.std.specs.Prelude.{min, slice_set}
 use Rattle.std.proofs.lemmas.Bool.{cases_eq, cases_lt}
 use Rattle.std.proofs.lemmas.List.{get_or-set_same, get_or-set_other, drop-set-lt, length-set}
@@ -16,9 +16,6 @@ below_min place a b one other = elim (cases_lt a b) [
   | inl less ↦ let order : a ≤ b = omega (arith, less) in subst (λ (n : ℕ). place < n) (sym (min-eq_left order)) one
   | inr more ↦ let order : b ≤ a = omega (arith, more) in subst (λ (n : ℕ). place < n) (sym (min-eq_right order)) other
 ]
-
-pub told_none : (Tells : Cell → ℕ → Type 0) (size : Size) (before : List ℕ) → AreToldUpTo Tells size 0 before before
-told_none Tells size before = record { long = refl; told = λ place less. absurd (omega (arith, less)); behind = λ place low. refl }
 
 pub told_more : (Tells : Cell → ℕ → Type 0) (size : Size) (count number : ℕ) (before now : List ℕ) → count < length now → AreToldUpTo Tells size count before now
     → Tells (cell_of size count) number → AreToldUpTo Tells size (count + 1) before (slice_set now count number)

@@ -1,16 +1,15 @@
 -- The table as it is filled, and the targets that are found.
-use Rattle.std.proofs.Common.{ℕ, ◌≡◌, ◌+◌, ◌-◌, ◌*◌, ◌<◌, ◌≤◌, ◌⊎◌, inl, inr, Bool, List, [], IsTrue, IsFalse, length, get_or, set, refl, sym, ap, ◌∙◌, subst, arith}
-use Rattle.std.specs.Prelude.{replicate, Contains}
+use Rattle.std.proofs.Common.{ℕ, ◌≡◌, ◌+◌, ◌-◌, ◌<◌, ◌≤◌, ◌⊎◌, inl, inr, Bool, List, [], IsTrue, IsFalse, length, get_or, set, refl, sym, ap, ◌∙◌, subst, arith}
+use Rattle.std.specs.Prelude.{Contains}
 use Rattle.std.proofs.lemmas.Bool.{cases_eq, cases_lt, both_ways}
 use Rattle.std.proofs.lemmas.Nat.{mul-le}
-use Rattle.std.proofs.lemmas.List.{length-replicate, get_or-replicate, get_or_past, get_or-set_same}
+use Rattle.std.proofs.lemmas.List.{get_or_past, get_or-set_same}
 use Rattle.nav_types.specs.declared.cells.Cell.{Cell}
 use Rattle.nav_types.specs.declared.cells.Rect.{Rect}
 use Rattle.nav_types.specs.declared.cells.Size.{Size}
 use Rattle.nav_types.specs.Cells.{IsInside, IsInRect, cell_at}
 use Rattle.nav_types.specs.Walks.{Joined}
 use Rattle.nav_types.proofs.CellOrder.{same_cell, before_next}
-use Rattle.nav_types.proofs.Items.{Contains-none}
 use Rattle.flow_field.specs.declared.spreading.FieldSpread.{FieldSpread}
 use Rattle.flow_field.specs.inner.Marks.{free, spot_of, mark_of, IsRunCleared, IsFreeSpot, IsCleared, IsFilled, IsSound, IsSpreading, Waits, NoStep}
 use Rattle.flow_field.specs.inner.Spreads.{WaitsIn, IsLowered, FoundBefore, FoundTo}
@@ -61,16 +60,6 @@ cleared_more passes size at from end old new free_there none_there run cleared =
         | inl before ↦ was k before
         | inr low ↦ inl (run.cleared k low below)
       ];
-    }
-
-pub cleared_none : (passes : Cell → Bool) (size : Size) (marks : List ℕ) → marks ≡ replicate ((size.w + 2) * (size.h + 2)) free → IsCleared passes size 0 marks
-cleared_none passes size marks is =
-    let n = (size.w + 2) * (size.h + 2) in
-    let long : length marks ≡ n = ap (λ (m : List ℕ). length m) is ∙ length-replicate {A = ℕ} n free in
-    record {
-      long = long;
-      each = λ k within. inl (ap (λ (m : List ℕ). get_or m k 0) is ∙ get_or-replicate n k free 0 (omega (arith, within, long)));
-      cleared = λ k below. absurd (omega (arith, below));
     }
 
 -- no cell has a place before the first row
@@ -151,32 +140,6 @@ spreading_as passes hit start size Found More marks Waiting turn spreads = recor
   ];
   settled = spreads.settled;
 }
-
--- nothing is reached yet
-pub spreading_none : (passes hit : Cell → Bool) (start : Cell) (size : Size) (Found : Cell → Type 0) (spread : FieldSpread) → ((cell : Cell) → IsTrue (passes cell) → IsInside size cell)
-    → ((target : Cell) → Found target → ⊥) → spread.straight ≡ [] → spread.diagonal ≡ [] → IsFilled passes size spread.marks.items
-    → IsSpreading passes hit start size Found NoStep spread.marks.items (WaitsIn spread)
-spreading_none passes hit start size Found spread inside none straight diagonal filled =
-    let marks = spread.marks.items in
-    let known : (cell : Cell) → IsTrue (passes cell) → mark_of size marks cell ≡ free = filled.passable in
-    record {
-      sound = record {
-        inside = inside;
-        long = filled.long;
-        most = λ k. elim (filled.each k) [ inl zero_there ↦ omega (arith, zero_there) | inr is ↦ omega (arith, is.0) ];
-        passable = λ cell passable. omega (arith, known cell passable);
-        cells = λ k some. elim (filled.each k) [ inl zero_there ↦ absurd (omega (arith, zero_there, some)) | inr is ↦ is.1 ];
-        joined = λ cell passable below. absurd (omega (arith, known cell passable, below));
-        walks = λ cell passable below. absurd (omega (arith, known cell passable, below));
-        few = λ k below. elim (filled.each k) [ inl zero_there ↦ omega (arith, zero_there) | inr is ↦ absurd (omega (arith, is.0, below)) ];
-      };
-      reached = λ k waits. elim waits [
-        | inl first ↦ absurd (Contains-none k (subst (λ (q : List ℕ). Contains q k) straight first))
-        | inr second ↦ absurd (Contains-none k (subst (λ (q : List ℕ). Contains q k) diagonal second))
-      ];
-      ends = λ target found is_hit joined. absurd (none target found);
-      settled = λ cell dir passable below. absurd (omega (arith, known cell passable, below));
-    }
 
 pub found_target : (passes hit : Cell → Bool) (start : Cell) (size : Size) (rect : Rect) (cell : Cell) (at : ℕ) (old new : FieldSpread) → IsTrue (passes cell) → IsTrue (hit cell) → Joined passes start cell → at ≡ spot_of size cell
     → IsLowered at at at 1 old new → IsSpreading passes hit start size (FoundBefore rect cell) NoStep old.marks.items (WaitsIn old)

@@ -282,15 +282,6 @@ summary_pass marks mark summary so_far is =
       none = so_far.none;
     }
 
-pub summary_none : (summary : FlowSummary) → summary.cells ≡ 0 → summary.sum ≡ 0 → summary.farthest ≡ 0 → IsSummaryOf [] summary
-summary_none summary cells sum farthest = record {
-  cells = cells;
-  sum = sum;
-  most = λ k known. absurd (let nil : List ℕ = [] in let zero_there : ℕ = 0 in let none : get_or nil k zero_there ≡ zero_there = get_or_past nil k zero_there (omega arith) in omega (arith, known.some, none));
-  reached = λ some. absurd (omega (arith, some, cells));
-  none = λ _. farthest;
-}
-
 -- a distance is below what a cell has that is not reached
 distance_most : (mark : ℕ) → distance_of mark ≤ free
 distance_most mark = elim (cases_Bool (is_reached mark)) [

@@ -1,11 +1,10 @@
 -- Which columns and rows a box has.
-use Rattle.std.proofs.Common.{◌+◌, ◌*◌, ◌/◌, ◌≤◌, ◌<◌, ℕ, ℤ, pos, negsuc, Bool, ◌&&◌, ◌↔◌, arith, leb-true, le-leb}
+use Rattle.std.proofs.Common.{◌*◌, ◌/◌, ◌≤◌, ◌<◌, ℕ, ℤ, pos, negsuc, Bool, ◌&&◌, ◌↔◌, arith, leb-true, le-leb}
 use Rattle.std.specs.Prelude.{unsigned_abs, IsTrue, nat_le}
 use Rattle.std.proofs.lemmas.Bool.{and_parts, and_from}
 use Rattle.std.proofs.lemmas.Int.{ints}
 use Rattle.std.proofs.Math.Nat.{le-div_iff_mul-le}
 use Rattle.fixed_point.specs.Plane.{from_centre, IsOnAxis}
-use Rattle.goal_shapes.specs.Goals.{gap}
 
 -- two tests at once
 pub both : {P Q : Type 0} (a b : Bool) → (IsTrue a ↔ P) → (IsTrue b ↔ Q) → IsTrue (a && b) ↔ (P × Q)
@@ -15,10 +14,6 @@ both a b first second =
 -- two facts that one fact decides
 pub alike : {P Q R : Type 0} → (P ↔ Q) → (R ↔ Q) → P ↔ R
 alike first second = ((λ p. second.1 (first.0 p)), (λ r. first.1 (second.0 r)))
-
--- a column lies no further than r from a coordinate where its middle lies no further than half a navcell more
-pub gap_near : (i r : ℕ) (x : ℤ) → IsTrue (nat_le (gap i x) r) ↔ (unsigned_abs (from_centre i x) ≤ 32768 + r)
-gap_near i r x = ((λ t. let near = leb-true (gap i x) r t in omega arith), (λ h. le-leb (gap i x) r (omega arith)))
 
 -- the middle of the column that holds a coordinate lies no further than half a navcell from it
 pub column_is_near : (count reach : ℕ) (x : ℤ) → IsOnAxis count x → 32768 ≤ reach

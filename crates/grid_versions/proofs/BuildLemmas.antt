@@ -85,16 +85,6 @@ edges_between side size labels place to here there near far laid here_is there_i
     subst (λ (chunk : Chunk). AreEdges passes chunk (neighbour_on side (chunk_numbered size place)) edges) near_of.0
     (subst (λ (chunk : Chunk). AreEdges passes near.chunk chunk edges) far_chunk (made passes size passes_inside near_labels far_labels))
 
--- a chunk outside the map has no edges
-pub no_edges : (passes : Cell → Bool) (size : Size) (here there : Chunk) → PassesInside passes size → (IsChunkInside size there → ⊥) → AreEdges passes here there []
-no_edges passes size here there inside outside = record {
-  each = λ near far listed. absurd (Contains-none (near, far) listed);
-  all = λ near far edge.
-      let lies = lies_in passes there edge.to edge.to_passes in
-      absurd (outside (subst (λ (chunk : Chunk). IsChunkInside size chunk) lies.in_chunk (chunk_inside size edge.to (inside edge.to lies.passable))));
-  rising = λ i j d low high. absurd (omega arith);
-}
-
 -- ---- links
 
 -- two links of the same parts are one

@@ -103,9 +103,6 @@ item_at size count Is items of place low =
 
 -- ---- one item for each chunk
 
-pub AreOfChunks-none : {A : Type 0} (size : Size) (Is : Chunk → A → Type 0) → AreOfChunks size 0 Is []
-AreOfChunks-none size Is = record { each = refl; are = λ place item at. absurd (cc) }
-
 -- one chunk more
 pub AreOfChunks-push : {A : Type 0} (size : Size) (count : ℕ) (Is : Chunk → A → Type 0) (items : List A) (item : A)
     → AreOfChunks size count Is items → Is (chunk_numbered size count) item → AreOfChunks size (count + 1) Is (items ++ item ∷ [])

@@ -1,17 +1,14 @@
 -- Marks of rectangles in a grid.
-use Rattle.std.proofs.Common.{◌≡◌, ℕ, ◌+◌, ◌-◌, ◌*◌, ◌<◌, ◌≤◌, ◌==◌, ◌⊎◌, inl, inr, Bool, true, false, ◌&&◌, ◌||◌, max, List, get_or, replicate, refl, sym, ap, subst, ◌∙◌, ⊎_elim, arith}
+use Rattle.std.proofs.Common.{◌≡◌, ℕ, ◌+◌, ◌-◌, ◌*◌, ◌<◌, ◌≤◌, ◌⊎◌, inl, inr, Bool, true, false, ◌&&◌, ◌||◌, max, List, refl, sym, ap, subst, ◌∙◌, ⊎_elim, arith}
 use Rattle.std.specs.Prelude.{bit_or, Contains}
 use Rattle.std.specs.Int.{bit_at}
-use Rattle.std.proofs.lemmas.Nat.Bits.{bit_at_or, bit_at-zero}
+use Rattle.std.proofs.lemmas.Nat.Bits.{bit_at_or}
 use Rattle.std.proofs.lemmas.Bool.{cases_lt, cases_eq, cases_Bool, both_ways, and_parts, and_from, false_from_ne_true, true_from_ne_false}
-use Rattle.std.proofs.lemmas.List.{get_or-replicate}
 use Rattle.nav_types.specs.declared.cells.Cell.{Cell}
 use Rattle.nav_types.specs.declared.cells.Rect.{Rect}
 use Rattle.nav_types.specs.declared.cells.Size.{Size}
 use Rattle.nav_types.specs.Cells.{cell_at, IsInside, IsInRect}
 use Rattle.nav_types.specs.Numbering.{rows}
-use Rattle.nav_types.specs.Places.{place_of}
-use Rattle.nav_types.proofs.CellPlaces.{place_of-lt}
 use Rattle.lane_rows.specs.Rows.{has_class}
 use Rattle.navcell_grid.specs.Grids.{GridCells, number_at, IsInSpan}
 use Rattle.clearance_raster.proofs.Rastering.{one_if-has_class}
@@ -195,20 +192,6 @@ listed_from base rect mask k cell has set inside = true_from_ne_false (is_listed
     both_ways (has_class k mask && is_in_rect rect cell)
     (none_meets (λ (entry : Rect × ℕ). has_class k entry.1 && is_in_rect entry.0 cell) base none (rect, mask) has)
     (and_from (has_class k mask) (is_in_rect rect cell) set (in_rect_to rect cell inside)))
-
--- an empty grid has no marks
-pub no_mark : (size : Size) (grid : GridCells) (run k : ℕ) (cell : Cell) → grid.size ≡ size
-    → grid.cells ≡ replicate (size.w * size.h) 0 → IsInside size cell → IsMarked grid run k cell → ⊥
-no_mark size grid run k cell size_is cells_are inside m =
-    let south = m.south in let row = inside.row in
-    let at = cell_at cell.i m.row in
-    let low = place_of-lt size at (record { column = inside.column; row = omega arith }) in
-    let none : number_at grid at ≡ 0 =
-    ap (λ (s : Size). get_or grid.cells (place_of s at) 0) size_is
-    ∙ ap (λ (xs : List ℕ). get_or xs (place_of size at) 0) cells_are
-    ∙ get_or-replicate (size.w * size.h) (place_of size at) 0 0 low in
-    let clear : bit_at (number_at grid at) k ≡ 0 = ap (λ n. bit_at n k) none ∙ bit_at-zero k in
-    both_ways (has_class k (number_at grid at)) (ap (λ b. b == 1) clear) m.set
 
 -- marks that stand for their own cell alone
 pub marks_are_bits : (base : List (Rect × ℕ)) (size : Size) (grid : GridCells) → AreMarks base size 1 grid

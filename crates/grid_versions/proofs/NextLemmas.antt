@@ -107,13 +107,6 @@ module _ (map : Map) (earlier now : Standing) (rects : List Rect)
           ∙ chunk_repainted.bits k cell (subst (λ (r : Rect). IsInRect r cell) (sym same_rect) inside);
     }
 
--- numbers that stay differ nowhere
-pub differs_nowhere : (k : ℕ) (rect : Rect) (a b : Numbering) → a ≡ b → (bit_at 0 k ≡ 1) ↔ DiffersIn k rect a b
-differs_nowhere k rect a b same = (
-  λ set. let none = bit_at-zero k in absurd (omega arith),
-  λ differs. absurd (differs.apart (ap (λ (n : Numbering). has_class k (number_of n differs.cell)) same)),
-)
-
 -- a rectangle is a part of itself
 pub whole_part : (rect : Rect) → rect.i0 ≤ rect.i1 → rect.j0 ≤ rect.j1 → IsPartOf rect rect
 whole_part rect columns rows = record {

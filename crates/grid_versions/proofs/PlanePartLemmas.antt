@@ -39,12 +39,6 @@ use Rattle.grid_versions.proofs.VersionLemmas.{passable-inside, own_rect, chunk-
 pub no_class : (k : ℕ) → IsFalse (has_class k 0)
 no_class k = ap (λ b. b == 1) (bit_at-zero k)
 
--- a kept cell of the part of a chunk is of none of its classes
-pub kept_part : (k : ℕ) (part : ChangedPart) (cell : Cell)
-    → (IsTrue (has_class k part.classes) → IsInRect part.rect cell → ⊥) → IsInRect part.rect cell
-    → IsFalse (has_class k part.classes)
-kept_part k part cell out inside = false_from_ne_true (has_class k part.classes) (λ set. out set inside)
-
 -- the chunk at the place of a cell's chunk holds the cell
 pub in_numbered : (size : Size) (cell : Cell) → IsInside size cell
     → IsInRect (chunk_rect size (chunk_numbered size (chunk_place size (chunk_of cell)))) cell

@@ -21,12 +21,11 @@ use Rattle.obstruction_store.specs.Standing.{Standing, with_placed}
 use Rattle.obstruction_store.proofs.Listing.{Contains-entries}
 use Rattle.posts.specs.declared.edits.Edit.{Edit}
 use Rattle.posts.specs.declared.edits.Edit.TheVariants.{Add, Remove, Move}
-use Rattle.posts.specs.declared.edits.EditReply.{EditReply}
 use Rattle.posts.specs.Maps.{Map}
-use Rattle.posts.specs.Edits.{is_refused, edited_id}
+use Rattle.posts.specs.Edits.{edited_id}
 use Rattle.grid_versions.specs.Passing.{is_in_rect, is_blocked}
 use Rattle.grid_versions.specs.Fitting.{fits}
-use Rattle.grid_versions.specs.Editing.{edit_reply, after_edit, with_edit}
+use Rattle.grid_versions.specs.Editing.{after_edit}
 use Rattle.grid_versions.specs.inner.Reaching.{is_in_some, HoldsReach, CoverChanges, NameChanges}
 use Rattle.grid_versions.proofs.EditingLemmas.{after_add, after_remove, after_move}
 use Rattle.grid_versions.proofs.PassingLemmas.{in_rect_to, none_meets, any_none}
@@ -63,14 +62,6 @@ edit_elsewhere map standing (Remove id) n other =
 edit_elsewhere map standing (Move id x z) n other =
     after_move (λ (s : Standing). fin_map.get s n ≡ fin_map.get standing n) map standing id x z
     (fin_map.get standing id) refl (λ fit. placed_elsewhere standing id n x z (fin_map.get standing id) other)
-
--- a refused edit leaves all
-pub refused_stays : (map : Map) (standing : Standing) (edit : Edit) (reply : EditReply)
-    → reply ≡ edit_reply map standing edit
-    → is_refused reply ≡ true → after_edit map standing edit ≡ standing
-refused_stays map standing edit reply same refused =
-    ap (λ r. cond (is_refused r) standing (with_edit standing edit)) (sym same)
-    ∙ ap (λ b. cond b standing (with_edit standing edit)) refused
 
 -- ---- what is blocked
 
@@ -137,10 +128,6 @@ covers_more map first before now id rects was is others held holds covers = reco
       ∙ blocked_alike map k cell before now id others (not_blocked map before id was k cell held inside parts.1)
       (not_blocked map now id is k cell holds inside last.1);
 }
-
--- nothing has changed
-pub covers_none : (map : Map) (standing : Standing) (rects : List Rect) → CoverChanges map standing standing rects
-covers_none map standing rects = record { same = λ k cell inside out. refl }
 
 -- ---- which numbers have changed
 

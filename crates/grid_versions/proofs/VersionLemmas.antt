@@ -39,9 +39,6 @@ use Rattle.grid_versions.proofs.PassingLemmas.{inside_from, inside_to}
 
 -- ---- one more table
 
-pub AreTablesOf-none : (passes : ℕ → Cell → Bool) (size : Size) → AreTablesOf 0 passes size []
-AreTablesOf-none passes size = record { each = refl; are = λ class tables at. absurd (cc) }
-
 pub AreTablesOf-push : (classes : ℕ) (passes : ℕ → Cell → Bool) (size : Size) (all : List Tables) (one : Tables)
     → AreTablesOf classes passes size all → AreTables (passes classes) size one → AreTablesOf (classes + 1) passes size (all ++ one ∷ [])
 AreTablesOf-push classes passes size all one of is =
@@ -218,29 +215,6 @@ sum_range_most f m n low =
 abbrev pub AreCompared : List Numbering → List Numbering → List ℕ → Type 0
 AreCompared before now bits = (place : ℕ) (a b : Numbering) (set : ℕ) → slice_get before place ≡ Some a → slice_get now place ≡ Some b
     → slice_get bits place ≡ Some set → (k : ℕ) → (bit_at set k ≡ 1) ↔ DiffersIn k b.rect a b
-
-pub compared_more : (before now : List Numbering) (bits : List ℕ) (n set : ℕ) (b : Numbering) → length bits ≡ n
-    → length now ≡ n → AreCompared before now bits
-    → ((a : Numbering) → slice_get before n ≡ Some a → (k : ℕ) → (bit_at set k ≡ 1) ↔ DiffersIn k b.rect a b)
-    → AreCompared before (now ++ b ∷ []) (bits ++ set ∷ [])
-compared_more before now bits n set b long each so_far is place c d other at_c at_d at k =
-    elim (slice_get-push_cases bits set place other at) [
-      | inl here ↦
-          let low : place < n = omega (arith, slice_get_within bits place other here) in
-          elim (slice_get-push_cases now b place d at_d) [
-            | inl there ↦ so_far place c d other at_c there here k
-            | inr end ↦ absurd (omega (arith, end.0))
-          ]
-      | inr last ↦
-          let same : n ≡ place = omega (arith, last.0) in
-          elim (slice_get-push_cases now b place d at_d) [
-            | inl there ↦ absurd (omega (arith, slice_get_within now place d there))
-            | inr end ↦
-                subst (λ (s : ℕ). (bit_at s k ≡ 1) ↔ DiffersIn k d.rect c d) last.1
-                (subst (λ (y : Numbering). (bit_at set k ≡ 1) ↔ DiffersIn k y.rect c y) end.1
-                (is c (ap (λ i. slice_get before i) same ∙ at_c) k))
-          ]
-    ]
 
 -- ---- a version from its parts
 

@@ -1,7 +1,6 @@
 -- What passes an edge in one call, and in calls one after another.
-use Rattle.std.proofs.Common.{ℕ, List, [], ◌++◌, Option, Result, Ok, Err}
-use Rattle.std.specs.Io.KnownBytes.{Keeps, ReadConsumes}
-use Rattle.std.proofs.KnownBytes.{Appends-nil, Appends-trans, Consumes-nil, Consumes-trans, Consumes-kept}
+use Rattle.std.proofs.Common.{ℕ, List, [], ◌++◌, Option}
+use Rattle.std.proofs.KnownBytes.{Appends-nil, Appends-trans, Consumes-nil, Consumes-trans}
 use Rattle.io_edges.specs.Passing.{HasGiven, HasTaken}
 
 -- ---- a source
@@ -16,15 +15,6 @@ given_more before mid now first second = record {
   given = first.given ++ second.given;
   rest = Consumes-trans before mid now first.given second.given first.rest second.rest;
 }
-
--- a call that failed
-pub given_kept : (before now : Option (List ℕ)) → Keeps before now → HasGiven before now
-given_kept before now same = record { given = []; rest = Consumes-kept before before now [] (Consumes-nil before) same }
-
--- one read
-pub given_read : {E : Type 0} (before now : Option (List ℕ)) (result : Result ℕ E) (buffer : List ℕ) → ReadConsumes before now result buffer → HasGiven before now
-given_read before now (Ok n) buffer read = record { given = _; rest = read.0 }
-given_read before now (Err failed) buffer read = given_kept before now read
 
 -- ---- a sink
 

@@ -5,8 +5,6 @@ use Rattle.nav_types.specs.declared.cells.Cell.{Cell}
 use Rattle.nav_types.specs.declared.cells.Size.{Size}
 use Rattle.nav_types.specs.declared.directions.Dir.{Dir}
 use Rattle.nav_types.specs.declared.directions.Dir.TheVariants.{N, E, S, W, NE, SE, SW, NW}
-use Rattle.nav_types.specs.Cells.{IsInside}
-use Rattle.nav_types.specs.Directions.{Leads}
 use Rattle.nav_types.specs.Walks.{Step}
 use Rattle.nav_types.proofs.Walking.{leads_to_same}
 use Rattle.jump_scan.specs.Stops.{IsRun, IsStop}
@@ -152,14 +150,3 @@ left_over size NE cell = size.h - cell.j
 left_over size SE cell = cell.j
 left_over size SW cell = cell.j
 left_over size NW cell = size.h - cell.j
-
-pub left_over-less : (size : Size) (dir : Dir) (a b : Cell) → IsInside size a → IsInside size b → Leads dir a b
-    → left_over size dir b < left_over size dir a
-left_over-less size N a b in_a in_b leads = let rows = leads.rows in let row = in_a.row in omega (arith, rows, row)
-left_over-less size E a b in_a in_b leads = let columns = leads.columns in let column = in_a.column in omega (arith, columns, column)
-left_over-less size S a b in_a in_b leads = let rows = leads.rows in omega (arith, rows)
-left_over-less size W a b in_a in_b leads = let columns = leads.columns in omega (arith, columns)
-left_over-less size NE a b in_a in_b leads = let rows = leads.rows in let row = in_a.row in omega (arith, rows, row)
-left_over-less size SE a b in_a in_b leads = let rows = leads.rows in omega (arith, rows)
-left_over-less size SW a b in_a in_b leads = let rows = leads.rows in omega (arith, rows)
-left_over-less size NW a b in_a in_b leads = let rows = leads.rows in let row = in_a.row in omega (arith, rows, row)

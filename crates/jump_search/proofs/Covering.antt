@@ -18,11 +18,6 @@ IsBlankBut numbers nodes from = (place : ℕ)
 pub blank_but_covered : (numbers : List ℕ) (nodes : List Node) → AreCovered numbers nodes → IsBlankBut numbers nodes 0
 blank_but_covered numbers nodes covered = λ place none. covered place (λ k d below. none k d (omega arith) below)
 
--- no place has a page
-pub covered_none : (table : List ℕ) (nodes : List Node) → ((place : ℕ) → get_or table place 0 ≡ 0)
-    → AreCovered table nodes
-covered_none table nodes zero = λ place none. zero place
-
 -- one more node has its page
 pub covered_more : (old new : List ℕ) (nodes : List Node) (node : Node) → AreCovered old nodes
     → ((place : ℕ) → place ≢ page_place node.state.cell → get_or new place 0 ≡ get_or old place 0)

@@ -11,7 +11,6 @@ use Rattle.jump_search.specs.declared.states.JumpState.{JumpState}
 use Rattle.jump_search.specs.JumpStates.{IsJump, octile_between}
 use Rattle.jump_search.specs.inner.Numbered.{HasState, LacksState, HasCheaper}
 use Rattle.jump_search.specs.inner.Searched.{IsLastRun, IsKeptRun, IsMetByJumps, HasOpenedParent, IsRelaxed, IsNoted, IsDearer, AreMet}
-use Rattle.jump_search.specs.inner.Searched.{IsFollowedFrom}
 use Rattle.jump_search.specs.inner.Underway.{IsLaterNode, AreLater, IsOpenNode, IsFollowedAlong}
 
 pub kept_self : (arrived : Option Dir) (run : ℕ) → IsKeptRun arrived run run
@@ -247,17 +246,6 @@ met_later passes hit start old new met later from =
         | inr fresh ↦ parent_later passes hit old new b later fresh.0
       ];
     }
-
-pub followed_later : (all : Bool) (passes hit : Cell → Bool) (start : Cell) (old new : List Node) (a b : Node) → AreLater old new
-    → b.state ≡ a.state → b.cost ≡ a.cost
-    → IsFollowedFrom all passes hit start old a → IsFollowedFrom all passes hit start new b
-followed_later all passes hit start old new a b later same cost followed = λ state run jump last.
-    let jump_a = subst (λ (s : JumpState). IsJump passes hit s state) same jump in
-    let last_a = subst (λ (s : JumpState). IsLastRun passes s.cell state run) same last in
-    let noted = noted_later all passes hit start old new state (a.cost + octile_between a.state.cell state.cell) run later
-    (followed state run jump_a last_a) in
-    subst (λ (n : ℕ). IsNoted all passes hit start new state (n + octile_between b.state.cell state.cell) run) (sym cost)
-    (subst (λ (s : JumpState). IsNoted all passes hit start new state (a.cost + octile_between s.cell state.cell) run) (sym same) noted)
 
 pub along_later : (all : Bool) (passes hit : Cell → Bool) (start : Cell) (old new : List Node) (from : JumpState) (cost : ℕ) (dir : Dir)
     → AreLater old new

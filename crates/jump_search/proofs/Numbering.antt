@@ -3,7 +3,7 @@ use Rattle.std.proofs.Common.{ℕ, ◌≡◌, ◌≢◌, ◌+◌, ◌<◌, ◌�
 use Rattle.std.proofs.Common.{Option, Some, None, inl, inr, refl, sym, subst, ap, ◌∙◌, arith}
 use Rattle.std.specs.List.{slice_get}
 use Rattle.std.proofs.lemmas.Bool.{cases_lt, cases_eq, and_parts, eqb-true, eq-eqb, and_from}
-use Rattle.std.proofs.lemmas.Option.{none-some, slice_get_within, slice_get_cases}
+use Rattle.std.proofs.lemmas.Option.{slice_get_within, slice_get_cases}
 use Rattle.std.proofs.lemmas.List.{length-set, length_push, get_or_append_left, get_or_push}
 use Rattle.nav_types.proofs.Items.{slice_get-push_cases}
 use Rattle.nav_types.specs.declared.cells.Cell.{Cell}
@@ -11,7 +11,7 @@ use Rattle.nav_types.specs.declared.directions.Dir.{Dir}
 use Rattle.nav_types.specs.declared.directions.Dir.TheVariants.{N, E, S, W, NE, SE, SW, NW}
 use Rattle.jump_search.specs.declared.nodes.Node.{Node}
 use Rattle.jump_search.specs.declared.states.JumpState.{JumpState}
-use Rattle.jump_search.specs.inner.Numbered.{arrival_number, key_of, same_key, HasState, LacksState, IsLastInSlot, AreLinked}
+use Rattle.jump_search.specs.inner.Numbered.{arrival_number, key_of, same_key, HasState, IsLastInSlot, AreLinked}
 use Rattle.jump_search.specs.inner.Numbered.{AreSlotChains, IsSought, IsSearchable, AreDown}
 use Rattle.jump_search.proofs.Listing.{one_item, get_set_cases}
 
@@ -205,21 +205,6 @@ chained_more Slot Head New nodes links node after chained is here apart =
       ];
     }
 
-pub chained_none : (Slot Head : Cell → ℕ) → ((cell : Cell) → Head cell ≡ 0) → AreSlotChains Slot Head [] []
-chained_none Slot Head zero = record {
-  linked = record {
-    long = refl;
-    each = λ number node found. absurd (none-some node found);
-  };
-  heads = λ cell.
-      subst (λ (n : ℕ). IsLastInSlot Slot [] (Slot cell) 0 n) (sym (zero cell))
-      (record {
-        within = omega arith;
-        here = λ number node next found. absurd (none-some node found);
-        past = λ number node from low found. absurd (none-some node found);
-      });
-}
-
 pub chained_down : (Slot Head : Cell → ℕ) (nodes : List Node) (links : List ℕ) → AreSlotChains Slot Head nodes links
     → AreDown nodes links
 chained_down Slot Head nodes links chained = record {
@@ -229,19 +214,6 @@ chained_down Slot Head nodes links chained = record {
     | inr past ↦ let most = past.0 in absurd (omega (arith, low, most))
   ];
 }
-
-pub sought_start : (Slot Head : Cell → ℕ) (nodes : List Node) (links : List ℕ) (state : JumpState)
-    → AreSlotChains Slot Head nodes links → IsSearchable nodes links state (Head state.cell)
-sought_start Slot Head nodes links state chained =
-    let last = chained.heads state.cell in
-    let sought : IsSought Slot nodes state (Head state.cell) = record {
-      within = last.within;
-      here = last.here;
-      past = λ number node from found same.
-          last.past number node from (slice_get_within nodes number node found) found
-          (ap (λ (s : JumpState). Slot s.cell) same);
-    } in
-    (Slot, (chained.linked, sought))
 
 pub sought_next : (nodes : List Node) (links : List ℕ) (state : JumpState) (after number : ℕ) (node : Node)
     → IsSearchable nodes links state after → number + 1 ≡ after → slice_get nodes number ≡ Some node
@@ -271,8 +243,3 @@ sought_next nodes links state after number node searchable next got differ =
       ];
     } in
     (Slot, (linked, then))
-
-pub sought_none : (nodes : List Node) (links : List ℕ) (state : JumpState) (after : ℕ)
-    → IsSearchable nodes links state after → after ≡ 0 → LacksState nodes state
-sought_none nodes links state after searchable none number has =
-    searchable.1.1.past number has.0 (omega (arith, none)) has.1.0 has.1.1

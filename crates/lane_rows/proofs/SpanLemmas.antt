@@ -79,12 +79,6 @@ pub span_outside : (from to mask : ℕ) (row : List ℕ) → from ≤ to → to 
 span_outside from to mask row ordered within k side =
     ⊎_elim (λ below. span_before from to mask row k ordered within below) (λ above. span_after from to mask row k ordered within above) side
 
--- an empty span
-pub with_span_none : (from mask : ℕ) (row : List ℕ) → from ≤ length row → with_span from from mask row ≡ row
-with_span_none from mask row within =
-    ext_get_or 0 (with_span from from mask row) row (length-with_span from from mask row (omega arith) within)
-    (λ k short. span_outside from from mask row (omega arith) within k (cases_lt k from))
-
 -- a span and then the one that follows it
 pub with_span_more : (from mid to mask : ℕ) (row : List ℕ) → from ≤ mid → mid ≤ to → to ≤ length row
     → with_span mid to mask (with_span from mid mask row) ≡ with_span from to mask row

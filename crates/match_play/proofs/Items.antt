@@ -1,6 +1,5 @@
 -- How items go with what a match stands on, and with how far its script was read.
-use Rattle.std.proofs.Common.{◌≡◌, ℕ, ◌+◌, ◌≤◌, ◌<◌, ◌^◌, List, [], ◌∷◌, ◌++◌, Option, Some, None, Ok, refl, sym, ap, subst, ◌∙◌, append-nil, arith}
-use Rattle.nav_types.specs.declared.cells.Rect.{Rect}
+use Rattle.std.proofs.Common.{◌≡◌, ℕ, ◌+◌, ◌≤◌, ◌<◌, ◌^◌, List, [], ◌∷◌, ◌++◌, Option, Some, None, Ok, sym, ap, subst, ◌∙◌, arith}
 use Rattle.posts.specs.declared.posts.Post.{Post}
 use Rattle.posts.specs.declared.notes.Report.{Report}
 use Rattle.posts.specs.Maps.{Map}
@@ -11,14 +10,14 @@ use Rattle.script_text.specs.declared.items.ScriptItem.TheVariants as item
 use Rattle.script_text.specs.declared.parts.Rules.{Rules}
 use Rattle.script_text.specs.declared.parts.Part.{Part}
 use Rattle.script_text.specs.declared.parts.Part.TheVariants.{BeforeMap, InBase, InTurns}
-use Rattle.script_text.specs.Script.{adds_base, ends_turn, rules_of}
+use Rattle.script_text.specs.Script.{ends_turn, rules_of}
 use Rattle.script_text.specs.Reader.{rules_at}
 use Rattle.script_text.specs.Pushed.{item_of, KeepsRules}
 use Rattle.script_text.specs.inner.Judging.{IsInTurns}
 use Rattle.match_play.specs.declared.states.MatchProgress.{MatchProgress}
 use Rattle.match_play.specs.declared.states.MatchProgress.TheVariants as progress
 use Rattle.match_play.specs.Texts.{IsTurnText, with_turn}
-use Rattle.match_play.specs.Grounds.{said_of, turns_in, FitsTurn, FitsItem, FitsPart, AddsBase, AddsTurn, Becomes, Tells}
+use Rattle.match_play.specs.Grounds.{said_of, turns_in, FitsItem, FitsPart, AddsTurn, Becomes, Tells}
 use Rattle.match_play.specs.Playing.{IsView}
 use Rattle.match_play.proofs.Walked.{AreTurns, HasTurn}
 
@@ -86,32 +85,7 @@ turns_next (progress.Map m) next (item.Base rects) is = let turns = ap turns_in 
 turns_next (progress.Turns v n) next (item.Base rects) is = absurd is
 turns_next g next (item.Turn posts) (v, (is, map)) = let turns = ap turns_in is in omega (arith, turns)
 
--- ---- where a turn may come
-
--- the map has come
-pub has_map : (g : MatchProgress) → FitsTurn g → (said_of g).map ≡ None → ⊥
-has_map progress.Nothing fits none = fits
-has_map (progress.Map m) fits none = cc
-has_map (progress.Turns v n) fits none = cc
-
--- there were few turns
-pub few_turns : (g : MatchProgress) → FitsTurn g → turns_in g < 2 ^ 32
-few_turns progress.Nothing fits = absurd fits
-few_turns (progress.Map m) fits = omega arith
-few_turns (progress.Turns v n) fits = fits
-
 -- ---- what is told of an item
-
-pub map_told : (report : Report) (g : MatchProgress) (m : Map) (waits : List ℕ) → FitsItem g (item.Map m) → Tells report (said_of g) (item_of (item.Map m)) (said_of (progress.Map m)) waits waits
-map_told report progress.Nothing m waits fits = ([], ((refl, refl), sym (append-nil waits)))
-map_told report (progress.Map other) m waits fits = absurd fits
-map_told report (progress.Turns v n) m waits fits = absurd fits
-
-pub base_told : (report : Report) (g new : MatchProgress) (rects : List (Rect × ℕ)) (waits : List ℕ) → AddsBase g rects new
-    → Tells report (said_of g) (adds_base rects) (said_of new) waits waits
-base_told report progress.Nothing new rects waits adds = absurd adds
-base_told report (progress.Map m) new rects waits is = ([], ((refl, ap said_of is), sym (append-nil waits)))
-base_told report (progress.Turns v n) new rects waits adds = absurd adds
 
 -- the text of a turn that was answered on the version that stands
 pub turn_told : (report : Report) (g : MatchProgress) (version v : MapState) (n : ℕ) (posts : List (List Post)) (text before waits : List ℕ) → IsView (said_of g) (Some version)

@@ -1,6 +1,6 @@
 -- How a match goes from what it was fed with to what it tells.
 use Rattle.std.proofs.Common.{◌≡◌, ℕ, ◌+◌, ◌↔◌, List, [], ◌∷◌, ◌++◌, length, All, Bool, true, false, IsFalse, IsTrue, Some, None, Result, Ok, Err, inl, inr, refl, sym, ap, subst, ◌∙◌, append_assoc, append-nil}
-use Rattle.std.proofs.lemmas.List.Elements.{All-nil, All-head, All-tail}
+use Rattle.std.proofs.lemmas.List.Elements.{All-head, All-tail}
 use Rattle.posts.specs.declared.notes.Report.{Report}
 use Rattle.input_lines.specs.Lines.{full_lines, unlines, IsPlain}
 use Rattle.input_lines.proofs.LineLists.{unlines-line, full_lines-behind}
@@ -18,12 +18,11 @@ use Rattle.match_play.specs.declared.states.ScriptStop.TheVariants.{BadLine, Too
 use Rattle.match_play.specs.declared.states.NextItem.{NextItem}
 use Rattle.match_play.specs.declared.states.NextItem.TheVariants as next_item
 use Rattle.match_play.specs.declared.states.MatchProgress.{MatchProgress}
-use Rattle.match_play.specs.declared.states.MatchProgress.TheVariants as progress
 use Rattle.match_play.specs.declared.states.MatchState.{MatchState}
 use Rattle.match_play.specs.declared.faults.MatchFault.{MatchFault}
 use Rattle.match_play.specs.declared.faults.MatchFault.TheVariants as fault
 use Rattle.match_play.specs.Texts.{Said, unsaid, Says, Gives, IsText, stop_text, ends_text}
-use Rattle.match_play.specs.Playing.{said_of, stop_of, ReadsItems, StopsBehind, HasRead, told_stop, IsOver, HasPlayed, IsLinesText, IsStopText, FeedTold, Plays, FeedPlays, HasTaken}
+use Rattle.match_play.specs.Playing.{said_of, stop_of, ReadsItems, StopsBehind, HasRead, told_stop, IsOver, HasPlayed, IsLinesText, IsStopText, FeedTold, Plays, FeedPlays}
 use Rattle.match_play.specs.Grounds.{Tells}
 use Rattle.match_play.specs.inner.Fitting.{IsStopped, TellsStop, fault_of, stop_in}
 
@@ -305,15 +304,6 @@ plays_stopped a piece unended stopped = record {
 
 -- ---- answers
 
-pub opened : (report : Report) → HasPlayed (record { report = report; script = unread; ended = false; next_item = next_item.Lines; progress = progress.Nothing; waiting = [] }) [] []
-opened report = record {
-  items = [];
-  text = [];
-  read = record { lines = []; plain = All-nil IsPlain; bytes = refl; walked = refl };
-  gives = (refl, refl);
-  all = refl;
-}
-
 -- all whole lines were played
 lines_text : (b : MatchState) (fed told : List ℕ) → IsFalse b.ended → b.next_item ≡ next_item.Lines → full_lines b.script.bytes ≡ [] → HasPlayed b fed told → IsLinesText b.report fed told
 lines_text b fed told unended at none h =
@@ -389,12 +379,3 @@ only_ended result ended unended answer = (λ is. absurd (answer is), λ end. abs
 pub only_over : (a : MatchState) (result : Result (Unit {0}) MatchFault) (over : Bool) → (IsOver a → IsTrue over) → IsFalse over → (result ≡ Err fault.Ended → ⊥)
     → (result ≡ Err fault.Ended) ↔ IsOver a
 only_over a result over says none answer = (λ is. absurd (answer is), λ end. let is = says end in absurd (cc))
-
--- the text that waits was taken
-pub taken_away : (a : MatchState) → HasTaken a (record a { waiting = [] })
-taken_away a = record {
-  same = refl;
-  waits = refl;
-  report = refl;
-  played = λ fed told h. record { items = h.items; text = h.text; read = h.read; gives = h.gives; all = h.all };
-}

@@ -113,16 +113,6 @@ pub record IsGathering (start : ℕ) (later : List Waiting) (bucket : ℕ) (old 
       → bucket_of start waiting.estimate ≡ bucket → Contains new (entry_of waiting)
   pub only : (entry : Entry) → Contains new entry → Contains old entry ⊎ (bucket_of start entry.estimate ≡ bucket)
 
-pub gathering_begins : (start : ℕ) (later : List Waiting) (bucket end : ℕ) (here : List Entry) → IsChain start later bucket end
-    → IsGathering start later bucket here here end
-gathering_begins start later bucket end here chain = record {
-  within = chain.last.within;
-  top = chain.last.here;
-  done = λ number waiting from known is.
-      absurd (chain.last.past number waiting from (slice_get_within later number waiting known) known is);
-  only = λ entry has. inl has;
-}
-
 pub gathering_goes_on : (start : ℕ) (later : List Waiting) (bucket end : ℕ) (old new : List Entry) (after number : ℕ) (waiting : Waiting)
     → IsChain start later bucket end → IsGathering start later bucket old new after → number + 1 ≡ after
     → slice_get later number ≡ Some waiting → IsGathering start later bucket old (new ++ entry_of waiting ∷ []) waiting.next

@@ -16,9 +16,6 @@ pub no_entries : (entries : List Entry) → length entries ≡ 0 → entries ≡
 no_entries [] none = refl
 no_entries (entry ∷ rest) none = absurd (omega (arith, none))
 
-pub falling_none : AreFalling []
-falling_none i j d up within = absurd (omega (arith, within))
-
 -- without the last
 pub falling_front : (entries : List Entry) (last : Entry) → AreFalling (entries ++ last ∷ []) → AreFalling entries
 falling_front entries last falling i j d up within =

@@ -1,5 +1,5 @@
 -- The map of the keys that have an estimate in a table.
-use Rattle.std.proofs.Common.{ℕ, zero, suc, ◌≡◌, ◌≢◌, ◌<◌, ◌≤◌, ◌+◌, ◌-◌, Bool, true, false, cond, List, [], ◌∷◌, ◌++◌, length, set, Option, None, Some, refl, ap, inl, inr, sym, subst, ◌∙◌, arith}
+use Rattle.std.proofs.Common.{ℕ, zero, suc, ◌≡◌, ◌≢◌, ◌<◌, ◌≤◌, ◌+◌, ◌-◌, Bool, true, false, cond, List, [], ◌∷◌, length, set, Option, None, Some, refl, ap, inl, inr, sym, subst, ◌∙◌, arith}
 use Rattle.std.specs.Option.{is_some}
 use Rattle.std.proofs.lemmas.Bool.{cases_eq, cases_lt}
 use Rattle.std.proofs.lemmas.List.{get_or-set_same, get_or-set_other, length-set}
@@ -90,13 +90,6 @@ remove_none queue key none =
       | inl same ↦ ap (λ (k : ℕ). map.get queue k) same.0 ∙ none ∙ ap (λ b. cond b None (map.get queue q)) (sym same.1)
       | inr other ↦ ap (λ b. cond b None (map.get queue q)) (sym other.1)
     ] ∙ sym (map.get-remove nat_cmp_total queue key q))
-
--- a table with one more place, which has no estimate
-pub at-grown : (table : List (Option ℕ)) (key : ℕ) → estimate_at (table ++ None ∷ []) key ≡ estimate_at table key
-at-grown [] zero = refl
-at-grown [] (suc key) = refl
-at-grown (e ∷ rest) zero = refl
-at-grown (e ∷ rest) (suc key) = at-grown rest key
 
 -- ---- how many keys there are
 at_most_more : (b : Bool) (m n most : ℕ) → n ≡ m + 1 → n ≤ most → cond b m n ≤ most

@@ -5,8 +5,7 @@ use Rattle.std.specs.Prelude.{slice_get}
 use Rattle.posts.specs.declared.posts.Post.{Post}
 use Rattle.posts.specs.declared.replies.Reply.{Reply}
 use Rattle.posts.specs.Callers.{list_of}
-use Rattle.request_lanes.specs.Ends.{LaneId}
-use Rattle.path_service.specs.Callers.{CallerId, CallerState, EndedState, AreNumbered, HasReplyLane, caller_id}
+use Rattle.path_service.specs.Callers.{CallerId, CallerState, EndedState, AreNumbered, caller_id}
 use Rattle.pathserve.specs.inner.Works.{AllEndWith, EndsWith, HaveAllPosted}
 
 -- ---- callers in the places of their numbers
@@ -32,15 +31,6 @@ placed ids callers same numbers =
     placed_from ids 0 callers (subst (AreNumbered 0) (sym same) numbers) (λ k.
     let here : k ≡ 0 + k = omega arith in
     ap (λ (l : List CallerId). slice_get l k) same ∙ ap (slice_get ids) here)
-
-some_is : {A : Type 0} (a b : A) → Some a ≡ Some b → a ≡ b
-some_is a b same = cc
-
--- its lane is the one that a driver names by its number
-pub same_lane : (ids : List CallerId) (caller : CallerState) (lane : LaneId) → IsPlaced ids caller
-    → HasReplyLane ids caller.id.number lane → lane ≡ caller.id.replies
-same_lane ids caller lane placed_so (id, (at, is)) =
-    sym is ∙ ap (λ (i : CallerId). i.replies) (some_is id caller.id (sym at ∙ placed_so))
 
 -- ---- one caller
 

@@ -18,7 +18,7 @@ use Rattle.pathserve.specs.Runs.{ReadsFrom, WritesTo, NamesReason, names_line, r
 use Rattle.pathserve.specs.inner.Stopping.{IsHeldReason}
 use Rattle.pathserve.specs.inner.Writing.{WritesPiece, WritesSome, StopsWith, EndsWith, refused_status, status_after}
 use Rattle.posts.specs.declared.notes.Report.{Report}
-use Rattle.pathserve.specs.Output.{Said, stop_text, ComesByMaking}
+use Rattle.pathserve.specs.Output.{Said, stop_text}
 use Rattle.script_text.specs.Reader.{Held}
 use Rattle.pathserve.proofs.Progress.{WentTold}
 use Rattle.pathserve.proofs.Refusals.{refused_no_read, refused_no_usage}
@@ -153,12 +153,6 @@ stop_named kept now met status why stops bad long named = by_line (stop_line kep
     by_line : ((n : ℕ) × ((met ≡ fault.BadLine n) ⊎ (met ≡ fault.TooLong n))) → IsSome why
     by_line (n, inl is) = bad n is
     by_line (n, inr is) = long n is
-
--- a run that makes a match names none
-pub making_no_line : (before now : ℕ) (status : Status) → ComesByMaking before now status → names_line status ≡ false
-making_no_line before now status (inl is) = ap names_line is
-making_no_line before now status (inr (inl is)) = ap names_line is
-making_no_line before now status (inr (inr (is, rose))) = ap names_line is
 
 -- ---- runs that read nothing, or write nothing
 

@@ -1,6 +1,5 @@
 -- A script that is read to its end, item by item.
-use Rattle.std.proofs.Common.{◌≡◌, ℕ, zero, suc, ◌+◌, ◌<◌, ◌≤◌, List, [], ◌∷◌, ◌++◌, length, replicate, Bool, true, false, Option, Some, None, Result, Ok, Err, IsTrue, refl, sym, ap, ◌∙◌, subst, arith, append-nil}
-use Rattle.std.specs.Prelude.{IsSome}
+use Rattle.std.proofs.Common.{◌≡◌, ℕ, zero, suc, ◌+◌, ◌≤◌, List, [], ◌∷◌, ◌++◌, length, replicate, Bool, true, Option, Some, None, Ok, Err, IsTrue, refl, sym, ap, ◌∙◌, subst, arith, append-nil}
 use Rattle.std.specs.List.{list_all}
 use Rattle.std.proofs.lemmas.Bool.{and_parts, and_from}
 use Rattle.std.proofs.lemmas.List.{length-replicate}
@@ -8,7 +7,7 @@ use Rattle.std.proofs.lemmas.List.Folds.{list_all-append}
 use Rattle.nav_types.specs.declared.cells.Rect.{Rect}
 use Rattle.posts.specs.declared.posts.Post.{Post}
 use Rattle.posts.specs.Callers.{of_caller, list_of}
-use Rattle.posts.specs.Maps.{Map, with_base}
+use Rattle.posts.specs.Maps.{Map}
 use Rattle.posts.specs.Posts.{post_count}
 use Rattle.posts.proofs.PostCounts.{count_none}
 use Rattle.path_service.specs.machine.Effects.{joined_up}
@@ -21,10 +20,10 @@ use Rattle.script_text.specs.declared.items.ScriptItem.TheVariants as item
 use Rattle.script_text.specs.declared.parts.Rules.{Rules}
 use Rattle.script_text.specs.Canon.{HaveLines, is_post_of}
 use Rattle.script_text.specs.Items.{ItemTold}
-use Rattle.script_text.specs.Led.{Led, posts_in}
+use Rattle.script_text.specs.Led.{posts_in}
 use Rattle.script_text.specs.Pushed.{KeepsRules, item_of}
 use Rattle.script_text.specs.Reader.{Held, stuck_after, unread}
-use Rattle.script_text.specs.Script.{Item, Place, Walk, adds_base, begins, ends_turn, map_after, map_after_item, reading, rules_of, turns_of, whole_input}
+use Rattle.script_text.specs.Script.{Item, adds_base, begins, ends_turn, map_after, map_after_item, rules_of, turns_of, whole_input}
 use Rattle.script_text.specs.declared.faults.ScriptFault.TheVariants as fault
 use Rattle.script_text.proofs.ReadCalls.{goes_then, map_after-append, stuck_then, turns_of-append}
 use Rattle.pathserve.specs.declared.serving.Script.{Script}
@@ -148,9 +147,6 @@ KeepsScript (Some s) rules = (rules ≡ Some (rules_of s.map)) × ((length s.pos
 abbrev pub count_read : Option Script → ℕ
 count_read None = 0
 count_read (Some s) = post_count s.posts + 1
-
-rules_same : (a b : Rules) → Some a ≡ Some b → a ≡ b
-rules_same a b is = cc
 
 -- what an item finds and leaves
 pub record Behind (read : Option Script) (i : ScriptItem) (now : Option Rules) : Type 0 where

@@ -1,12 +1,12 @@
 -- Lines of sight from cells and to cells that are impassable, and how many waypoints are kept.
-use Rattle.std.proofs.Common.{ℕ, ◌≡◌, ◌+◌, ◌<◌, ◌≤◌, ◌↔◌, inl, inr, Bool, true, false, IsTrue, IsFalse, List, [], ◌∷◌, ◌++◌, length, map, take, get_or, refl, sym, ap, ◌∙◌, arith}
+use Rattle.std.proofs.Common.{ℕ, ◌≡◌, ◌+◌, ◌<◌, ◌≤◌, ◌↔◌, inl, inr, Bool, true, false, IsTrue, List, [], ◌∷◌, ◌++◌, length, map, take, get_or, refl, sym, ap, ◌∙◌, arith}
 use Rattle.std.specs.Prelude.{Err, Some, drop, slice_get, slice_set}
 use Rattle.std.proofs.lemmas.Bool.{both_ways}
 use Rattle.std.proofs.lemmas.List.{drop-set-lt, length-map, length-set, map-append, take-append-drop, take_all, take_more, take_more_set}
 use Rattle.nav_types.specs.declared.cells.Cell.{Cell}
 use Rattle.nav_types.specs.Cells.{IsInside}
 use Rattle.line_smooth.specs.Segments.{IsClear}
-use Rattle.line_smooth.specs.Smoothed.{AreCorners, IsSmoothing, IsSublist}
+use Rattle.line_smooth.specs.Smoothed.{IsSmoothing, IsSublist}
 use Rattle.line_smooth.proofs.Sights.{touches_from, touches_to}
 use Rattle.flat_posts.specs.Cells.{flat_cell}
 use Rattle.flat_posts.specs.declared.cells.FlatCell.{FlatCell}
@@ -102,13 +102,6 @@ classless_walk version k start corners none held = none (passes_class version k 
 
 pub start_outside : (version : MapState) (k : ℕ) (start : Cell) (corners : List Cell) → (IsInside version.map.size start → ⊥) → IsHeldWalk version k start corners → ⊥
 start_outside version k start corners outside held = outside (passes_within version k start held.passable)
-
-pub blocked_start : (version : MapState) (k : ℕ) (start : Cell) (corners : List Cell) → IsFalse (passes_of version k start) → IsHeldWalk version k start corners → ⊥
-blocked_start version k start corners blocked held = both_ways (passes_of version k start) blocked held.passable
-
-pub walk_held : (version : MapState) (k : ℕ) (start : Cell) (corners : List Cell) (tested : Bool) → IsTrue (passes_of version k start)
-    → IsTrue tested ↔ AreCorners (passes_of version k) start corners → IsTrue tested ↔ IsHeldWalk version k start corners
-walk_held version k start corners tested free is = (λ yes. record { passable = free; walk = is.0 yes }, λ held. is.1 held.walk)
 
 -- what refuses to give points has written nothing
 pub smooths_not : (version : MapState) (k : ℕ) (start : Cell) (before : WalkRoom) (fault : PostFault)

@@ -6,18 +6,13 @@ use Rattle.reach_sets.specs.declared.regions.RegionId.{RegionId}
 use Rattle.reach_sets.specs.RegionOrder.{IsRegion, place}
 use Rattle.reach_sets.specs.AreaNumbers.{IsLink, AreJoined}
 use Rattle.reach_sets.specs.inner.Forests.{HasParent, AreInOneTree, JoinsTrees}
-use Rattle.reach_sets.proofs.ChainLemmas.{chained_same, chained_once, chained_to}
+use Rattle.reach_sets.proofs.ChainLemmas.{chained_once, chained_to}
 use Rattle.reach_sets.proofs.RowLemmas.{region_from, region_from-place}
 
 -- the links join each place's region to its parent's
 abbrev pub ByLinks : List ℕ → List (RegionId × RegionId) → List ℕ → Type 0
 ByLinks regions links parents =
     (k : ℕ) → k < length parents → AreJoined links (region_from 0 regions k) (region_from 0 regions (get_or parents k 0))
-
-pub by_links_apart : (regions : List ℕ) (links : List (RegionId × RegionId)) (parents : List ℕ) → ((k : ℕ) → k < length parents → get_or parents k 0 ≡ k) → ByLinks regions links parents
-by_links_apart regions links parents apart k inside =
-    chained_same (IsLink links) (region_from 0 regions k) (region_from 0 regions (get_or parents k 0))
-    (ap (λ y. region_from 0 regions y) (sym (apart k inside)))
 
 pub by_links_more : (regions : List ℕ) (links : List (RegionId × RegionId)) (old new : List ℕ) (link : RegionId × RegionId) → IsRegion regions link.0 → IsRegion regions link.1 → Contains links link → ByLinks regions links old → JoinsTrees old (place regions link.0) (place regions link.1) new → ByLinks regions links new
 by_links_more regions links old new link a_is b_is known so_far joins k inside =

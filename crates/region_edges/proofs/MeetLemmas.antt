@@ -1,5 +1,5 @@
 -- Collecting the pairs that meet along a border, place by place.
-use Rattle.std.proofs.Common.{ℕ, ◌≡◌, ◌≢◌, ◌<◌, ◌≤◌, ◌↔◌, ◌⊎◌, List, [], inl, inr, sym, subst, ◌∙◌, arith}
+use Rattle.std.proofs.Common.{ℕ, ◌≡◌, ◌≢◌, ◌<◌, ◌≤◌, ◌↔◌, ◌⊎◌, List, inl, inr, sym, subst, ◌∙◌, arith}
 use Rattle.std.specs.List.{Contains}
 use Rattle.std.proofs.lemmas.Bool.{cases_lt}
 use Rattle.chunk_regions.specs.Labelling.{Labelling}
@@ -9,10 +9,6 @@ use Rattle.region_edges.specs.inner.Borders.{Meets, numbers_at}
 -- the list has exactly the pairs that meet at the first places
 abbrev pub AreMeetings : ChunkSide → Labelling → Labelling → ℕ → List (ℕ × ℕ) → Type 0
 AreMeetings side here there places pairs = (pair : ℕ × ℕ) → Contains pairs pair ↔ Meets side here there places pair
-
-pub AreMeetings-none : (side : ChunkSide) (here there : Labelling) → AreMeetings side here there 0 []
-AreMeetings-none side here there pair =
-    (λ inside. absurd (omega (arith, inside.1)), λ meets. let less = meets.within in absurd (omega arith))
 
 -- what meets at the first places still does with more places
 Meets-more : (side : ChunkSide) (here there : Labelling) (places more : ℕ) (pair : ℕ × ℕ) → places ≤ more → Meets side here there places pair

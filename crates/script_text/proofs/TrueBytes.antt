@@ -34,9 +34,6 @@ is_false false h = refl
 comma-begins : (byte : ℕ) → byte ≡ 44 → begins_value byte ≡ false
 comma-begins byte e = ap begins_value e
 
-colon-begins : (byte : ℕ) → byte ≡ 58 → begins_value byte ≡ false
-colon-begins byte e = ap begins_value e
-
 closing-begins : (byte : ℕ) → closes byte ≡ true → begins_value byte ≡ false
 closing-begins byte e = by_byte (byte == 93) refl (byte == 125) refl e
   where

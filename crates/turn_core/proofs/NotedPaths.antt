@@ -1,5 +1,5 @@
 -- Paths with what a report tells of them.
-use Rattle.std.proofs.Common.{◌≡◌, ℕ, ℤ, sym, refl, subst}
+use Rattle.std.proofs.Common.{ℕ, ℤ, sym, subst}
 use Rattle.nav_types.specs.declared.cells.Cell.{Cell}
 use Rattle.walks.specs.declared.found_walk.Found.{Found}
 use Rattle.line_smooth.specs.Smoothed.{AreCorners}
@@ -8,29 +8,18 @@ use Rattle.goal_shapes.specs.declared.goals.Goal.{Goal}
 use Rattle.goal_reach.specs.declared.targets.Target.{Target}
 use Rattle.goal_reach.specs.Starts.{IsStartCell}
 use Rattle.goal_reach.specs.Targets.{hit_by, AreTargets}
-use Rattle.posts.specs.declared.notes.Note.{Note}
 use Rattle.posts.specs.declared.notes.Report.{Report}
-use Rattle.posts.specs.declared.replies.PathAnswer.{PathAnswer}
 use Rattle.grid_versions.specs.Versions.{MapState, passes_of}
 use Rattle.turn_core.specs.Solving.{IsPathAnswer}
-use Rattle.turn_core.specs.Notes.{IsTold, IsNoteTo}
+use Rattle.turn_core.specs.Notes.{IsNoteTo}
 use Rattle.turn_core.specs.declared.searches.NotedPath.{NotedPath}
-use Rattle.turn_core.specs.inner.Searching.{IsFoundTo, IsNotedPath, path_by}
+use Rattle.turn_core.specs.inner.Searching.{IsFoundTo, IsNotedPath}
 
 -- the waypoints of a walk that was found are the corners of a legal one
 pub found_corners : (state : MapState) (class : ℕ) (start : Cell) (target : Target) (found : Found) → IsFoundTo state class start target found
     → AreCorners (passes_of state class) start found.waypoints
 found_corners state class start target found is =
     corners_of_answer (passes_of state class) (hit_by target) start found.end found.cost.0 found.waypoints is
-
--- the path of a walk that was found, with its note
-pub noted_path : (state : MapState) (report : Report) (class : ℕ) (start : Cell) (target : Target) (found : Found) (path : PathAnswer) (note : Note)
-    → path ≡ path_by start target found → IsFoundTo state class start target found
-    → IsTold report (passes_of state class) state.map.size target (path_by start target found) note
-    → IsNotedPath state report class start target (record { path = path; note = note })
-noted_path state report class start target found path note same is told =
-    subst (λ (p : PathAnswer). IsNotedPath state report class start target (record { path = p; note = note })) (sym same)
-    (record { begins = refl; nearness = refl; walk = is; told = told })
 
 -- a path from the start cell to the targets of a goal answers
 pub path_answers : (state : MapState) (report : Report) (class : ℕ) (x z : ℤ) (start : Cell) (goal : Goal) (target : Target) (noted : NotedPath)
