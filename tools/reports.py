@@ -11,7 +11,9 @@ import sys
 
 sys.path.insert(0, os.path.dirname(os.path.abspath(__file__)))
 import commands
+import marks
 import specs
+from marks import Place
 
 TABLE = "crates/pathserve/src/commands.rt"
 
@@ -42,50 +44,30 @@ def help_lines():
     return "".join(f"  {word:<12} the same, {text}\n" for word, text in reports()[1:])
 
 
-# Where the words stand: a file, what they stand between, and what is to stand there.
+# Where the words stand.
 PLACES = [
-    ("include/pathserve.h", r"enum \{\n(?=    PATHSERVE_REPLAY)", r"\};", header_enum),
-    ("include/pathserve.h", r"#define PATHSERVE_REPORT_WORDS ", r"\n", lambda: listed(", ", '"{word}"')),
-    ("examples/python/pathserve/matches.py", r"^REPORTS = \{", r"\}", lambda: listed(", ", '"{word}": {number}')),
-    ("examples/rust/pathserve/src/matches.rs", r"pub enum Report \{\n", r"\}", lambda: listed("", "    {name} = {number},\n")),
-    ("examples/csharp/Pathserve.cs", r"enum Report : uint \{ ", r" \}", lambda: listed(", ", "{name} = {number}")),
-    ("examples/javascript/pathserve/pathserve.js", r"^export const REPORTS = Object.freeze\(\[", r"\]", lambda: listed(", ", '"{word}"')),
-    ("examples/javascript/pathserve/pathserve.d.ts", r"^export type Report = ", ";", lambda: listed(" | ", '"{word}"')),
-    ("pathserve", r"^usage: ./pathserve ", r"\|serve ", lambda: listed("|")),
-    ("pathserve", r"^  replay  [^\n]*\n", r"  serve  ", help_lines),
-    ("pathserve", r"    (?=replay \|)", r" \| serve\)", lambda: listed(" | ")),
-    ("crates/pathserve/src/status.rt", r"\"usage: pathserve ", r"\|serve ", lambda: listed("|")),
-    ("crates/pathserve/specs/Words.antt", r"\"usage: pathserve ", r"\|serve ", lambda: listed("|")),
+    Place("include/pathserve.h", r"enum \{\n(?=    PATHSERVE_REPLAY)", r"\};", lambda _: header_enum()),
+    Place("include/pathserve.h", r"#define PATHSERVE_REPORT_WORDS ", r"\n", lambda _: listed(", ", '"{word}"')),
+    Place("examples/python/pathserve/matches.py", r"^REPORTS = \{", r"\}", lambda _: listed(", ", '"{word}": {number}')),
+    Place("examples/rust/pathserve/src/matches.rs", r"pub enum Report \{\n", r"\}", lambda _: listed("", "    {name} = {number},\n")),
+    Place("examples/csharp/Pathserve.cs", r"enum Report : uint \{ ", r" \}", lambda _: listed(", ", "{name} = {number}")),
+    Place("examples/javascript/pathserve/pathserve.js", r"^export const REPORTS = Object.freeze\(\[", r"\]", lambda _: listed(", ", '"{word}"')),
+    Place("examples/javascript/pathserve/pathserve.d.ts", r"^export type Report = ", ";", lambda _: listed(" | ", '"{word}"')),
+    Place("pathserve", r"^usage: ./pathserve ", r"\|serve ", lambda _: listed("|")),
+    Place("pathserve", r"^  replay  [^\n]*\n", r"  serve  ", lambda _: help_lines()),
+    Place("pathserve", r"    (?=replay \|)", r" \| serve\)", lambda _: listed(" | ")),
+    Place("crates/pathserve/src/status.rt", r"\"usage: pathserve ", r"\|serve ", lambda _: listed("|")),
+    Place("crates/pathserve/specs/Words.antt", r"\"usage: pathserve ", r"\|serve ", lambda _: listed("|")),
 ]
-
-
-def written(file):
-    """A file with the words that there are now in each of its places."""
-    text = specs.read(file)
-    for its, begin, end, made in PLACES:
-        if its == file:
-            found = re.search(rf"({begin})(.*?)(?={end})", text, re.MULTILINE | re.DOTALL)
-            if not found:
-                raise ValueError(f"{file} has no place for the words: {begin}")
-            text = text[: found.end(1)] + made() + text[found.end(2) :]
-    return text
 
 
 def main(words):
     if words not in ([], ["--check"]):
         return commands.usage(__doc__, words)
-    status = 0
-    for file in dict.fromkeys(it[0] for it in PLACES):
-        text = written(file)
-        if text == specs.read(file):
-            continue
-        if words:
-            commands.say(f"{file} has not the words of {TABLE}: run tools/reports.py")
-            status = 1
-        else:
-            with open(os.path.join(specs.TOP, file), "w", encoding="utf-8") as it:
-                it.write(text)
-    return status
+    if words:
+        return marks.check(PLACES, "tools/reports.py")
+    marks.write(PLACES)
+    return 0
 
 
 if __name__ == "__main__":

@@ -33,7 +33,7 @@ class Table(unittest.TestCase):
     def test_a_word_more_is_written_to_each_place(self):
         """The script writes it into each file, and takes it out again where the table has it no more."""
         now = reports.reports()
-        files = {it[0]: it[0] for it in reports.PLACES}
+        files = {it.file: it.file for it in reports.PLACES}
         with tempfile.TemporaryDirectory() as top, mock.patch.object(specs, "TOP", top):
             for file in files:
                 os.makedirs(os.path.dirname(f"{top}/{file}"), exist_ok=True)
