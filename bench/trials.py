@@ -11,8 +11,9 @@ from unittest import mock
 
 HOME = pathlib.Path(__file__).resolve().parent.parent
 sys.dont_write_bytecode = True
-sys.path.insert(0, str(HOME / "examples"))
+sys.path[:0] = [str(HOME / "examples"), str(HOME / "tools")]
 import check  # noqa: E402
+import forms  # noqa: E402
 
 SECONDS = 30  # a run that takes longer hangs
 MOST_CELLS = 20_000  # of larger maps only the status and the bad line are predicted

@@ -1,29 +1,36 @@
 #!/usr/bin/env python3
 """Prints the table of forms: the keys of each line and goal of a script, what stands under them, and the numbers of the C structs.
 
-It is read out of the crates: the forms out of the table of script_text, the numbers out of flat_posts and pathserve_c.
-What a client needs of them stands in other places too: the header, the packages for Python and Rust, docs/FORMAT.md and
-examples/check.py. `tools/tests/test_forms.py` holds these against the table.
+It is read out of the crates: the forms out of the table of script_text, the numbers and the post out of flat_posts and
+pathserve_c. `forms.py --write` writes the numbers, and the post as a struct, wherever the header and the packages repeat
+them; `forms.py --check` writes nothing and ends with 1 where one of these is not current. What is written by hand beside
+them, makers of posts, docs/FORMAT.md and examples/check.py, `tools/tests/test_forms.py` holds against the table.
 """
-import argparse
+import itertools
 import os
 import re
 import sys
+from typing import NamedTuple
 
-TOP = os.path.dirname(os.path.dirname(os.path.abspath(__file__)))
+sys.path.insert(0, os.path.dirname(os.path.abspath(__file__)))
+import commands
+import marks
+from marks import Place
+from specs import read
+
 TABLE = "crates/script_text/specs/Table.antt"
+POST = "crates/flat_posts/src/posted.rt"
 NUMBERS = {
     "posts": "crates/flat_posts/src/post_kinds.rt",
     "goals": "crates/flat_posts/src/goal_kinds.rt",
+    "faults": "crates/pathserve_c/src/checks.rt",
     "replies": "crates/flat_posts/src/reply_kinds.rt",
     "refusals": "crates/flat_posts/src/refusals.rt",
     "statuses": "crates/pathserve_c/src/statuses.rt",
 }
 
 
-def read(name):
-    with open(os.path.join(TOP, name), encoding="utf-8") as file:
-        return file.read()
+# ---- the table
 
 
 def said(name, of):
@@ -64,9 +71,38 @@ def goals():
     return {name: (key, under[name]) for name, key in quoted(said("goal_key_text", "goal")).items()}
 
 
+class Number(NamedTuple):
+    """A number of the C structs: its name, its value, its type, and what it stands for."""
+
+    name: str
+    value: int
+    type: str
+    about: str
+
+    def in_words(self):
+        """The name as `BadShape`."""
+        return "".join(it.capitalize() for it in self.name.split("_"))
+
+    def with_dashes(self):
+        """The name as `bad-shape`."""
+        return self.name.lower().replace("_", "-")
+
+
 def numbers(of):
-    """The numbers of the C structs of this kind, by their names."""
-    return {name: int(number) for name, number in re.findall(r"^pub const ([A-Z_]+): u\d+ = (\d+);$", read(NUMBERS[of]), re.MULTILINE)}
+    """The numbers of this kind, in the order of the crates."""
+    found = re.findall(r"^/// (.*)\.\npub const ([A-Z_]+): (u\d+) = (\d+);$", read(NUMBERS[of]), re.MULTILINE)
+    return [Number(name, int(value), type_, about[0].lower() + about[1:]) for about, name, type_, value in found]
+
+
+def values(of):
+    """The values of these numbers by their names."""
+    return {it.name: it.value for it in numbers(of)}
+
+
+def post_fields():
+    """The fields of a post as a struct, each with its type."""
+    body = re.search(r"^pub struct FlatPost \{\n(.*?)^\}", read(POST), re.MULTILINE | re.DOTALL)[1]
+    return re.findall(r"pub (\w+): (\w+),", body)
 
 
 def lines():
@@ -79,14 +115,203 @@ def lines():
     yield from (f"    {key:<12} {wanted}" for key, wanted in goals().values())
     for of in NUMBERS:
         yield f"numbers of {of}"
-        yield from (f"    {number:>2} {name}" for name, number in numbers(of).items())
+        yield from (f"    {value:>2} {name}" for name, value in values(of).items())
+    yield "fields of a post"
+    yield from (f"    {type_:<4} {name}" for name, type_ in post_fields())
 
 
-def main():
-    argparse.ArgumentParser(description=__doc__, formatter_class=argparse.RawDescriptionHelpFormatter).parse_args()
+# ---- what repeats it
+
+WIDTH = 136  # of the lines that hold a list
+HEADER, CSHARP = "include/pathserve.h", "examples/csharp/Pathserve.cs"
+PYTHON_NATIVE, PYTHON_POSTS = "examples/python/pathserve/native.py", "examples/python/pathserve/posts.py"
+RUST_SYS, RUST_POSTS = "examples/rust/pathserve-sys/src/lib.rs", "examples/rust/pathserve/src/posts.rs"
+SCRIPT, SCRIPT_TYPES = "examples/javascript/pathserve/pathserve.js", "examples/javascript/pathserve/pathserve.d.ts"
+
+
+def listed(items, between, indent):
+    """Items in as few lines as have room for them."""
+    rows = [indent + items[0]]
+    for item in items[1:]:
+        if len(rows[-1] + between + item) < WIDTH:
+            rows[-1] += between + item
+        else:
+            rows[-1] += between.rstrip()
+            rows.append(indent + item)
+    return "\n".join(rows)
+
+
+def header_enum(of):
+    """The names of an enum. A comment that stands there stays; a new name has that of the crates."""
+
+    def made(old):
+        comments = dict(re.findall(r"PATHSERVE_(\w+) = \d+,? +/\* (.*) \*/", old))
+        found = numbers(of)
+        names = [f"PATHSERVE_{it.name} = {it.value}{',' * (it is not found[-1])}" for it in found]
+        width = max(map(len, names))
+        return "".join(f"    {name:<{width}} /* {comments.get(it.name, it.about)} */\n" for name, it in zip(names, found))
+
+    return made
+
+
+def greatest(of):
+    return lambda _: str(max(values(of).values()))
+
+
+def python_enum(of):
+    return lambda _: "\n".join(f"    {name} = {value}" for name, value in values(of).items())
+
+
+def python_struct(_):
+    """The fields, those of one type that stand together in one line."""
+    text = ""
+    for type_, fields in itertools.groupby(post_fields(), lambda it: it[1]):
+        names = [f'"{name}"' for name, _ in fields]
+        of_c = f"c_uint{type_[1:]}" if type_[0] == "u" else f"c_int{type_[1:]}"
+        line = f"({names[0]}, {of_c})" if len(names) == 1 else f"*[(name, {of_c}) for name in ({', '.join(names)})]"
+        text += f"        {line},\n"
+    return text
+
+
+def rust_numbers(_):
+    return "\n".join("".join(f"pub const {it.name}: {it.type} = {it.value};\n" for it in numbers(of)) for of in NUMBERS)
+
+
+def rust_struct(_):
+    return "".join(f"    pub {name}: {type_},\n" for name, type_ in post_fields())
+
+
+def rust_refusals(_):
+    return "".join(f"    {it.in_words()},\n" for it in numbers("refusals"))
+
+
+def rust_refusal_arms(_):
+    return "".join(f"        sys::{it.name} => Refusal::{it.in_words()},\n" for it in numbers("refusals"))
+
+
+def csharp_enum(of, none):
+    """The body of an enum, in one line where that has room for it."""
+
+    def made(_):
+        names = ["None = 0"] * none + [f"{it.in_words()} = {it.value}" for it in numbers(of)]
+        line = f" {{ {', '.join(names)} }}"
+        return line if len(line) < 104 else f"\n    {{\n{listed(names, ', ', ' ' * 8)}\n    }}"
+
+    return made
+
+
+def script_object(of, between):
+    """The fields of an object of JavaScript, or of its type, in one line where that has room for them."""
+
+    def made(_):
+        fields = [f"{name}: {value}" for name, value in values(of).items()]
+        line = f" {between.join(fields)} "
+        return line if len(line) < 96 else f"\n{listed(fields, between, '  ')}\n"
+
+    return made
+
+
+def script_names(of, between):
+    return lambda _: between.join(f'"{it.with_dashes()}"' for it in numbers(of))
+
+
+def camel(name):
+    first, *others = name.split("_")
+    return first + "".join(it.capitalize() for it in others)
+
+
+def typed_post(_):
+    names = [camel(name) for name, _ in post_fields() if name != "zero"]
+    return listed([f"{name}{'?' * (name != 'kind')}: number;" for name in names], " ", "  ") + "\n"
+
+
+def typed(parameters):
+    """Parameters of JavaScript with their types."""
+    others = {"goal": "goal: GoalFields", "outside = false": "outside?: boolean"}
+    return ", ".join(others.get(it, f"{it}: number") for it in parameters.split(", "))
+
+
+def typed_makers(_):
+    """The makers of posts as they are declared to TypeScript, out of those for JavaScript."""
+    maker = r"((?:^/\*\* .* \*/\n)?)^export const (\w+) = \((.*?)\) => \(\{ kind: "
+    found = re.findall(maker, read(SCRIPT), re.MULTILINE)
+    return "".join(f"{about}export function {name}({typed(parameters)}): Post;\n" for about, name, parameters in found)
+
+
+def typed_goals(_):
+    found = re.findall(r"^  (\w+): \((.*?)\) => \(\{ goal: ", read(SCRIPT), re.MULTILINE)
+    return "".join(f"  {name}({typed(parameters)}): GoalFields;\n" for name, parameters in found)
+
+
+def header_place(of, begin):
+    return Place(HEADER, begin, r"\};", header_enum(of))
+
+
+def python_place(of, file, name):
+    return Place(file, rf"^class {name}\(.*?(?=^    [A-Z])", r"\n\n", python_enum(of))
+
+
+def csharp_place(of, name, none=False):
+    return Place(CSHARP, rf"public enum {name} : \w+", r"\n\n", csharp_enum(of, none))
+
+
+def script_places(of, name):
+    yield Place(SCRIPT, rf"^export const {name} = Object.freeze\(\{{", r"\}", script_object(of, ", "))
+    yield Place(SCRIPT_TYPES, rf"^export const {name}: Readonly<\{{", r"\}", script_object(of, "; "))
+
+
+PLACES = [
+    header_place("statuses", r"uint32_t pathserve_status;\nenum \{\n"),
+    header_place("posts", r"enum \{ /\* pathserve_post\.kind .*?\n"),
+    header_place("goals", r"enum \{ /\* pathserve_post\.goal .*?\n"),
+    header_place("faults", r"enum \{ /\* what pathserve_check .*?\n"),
+    header_place("replies", r"enum \{ /\* pathserve_reply\.kind .*?\n"),
+    header_place("refusals", r"enum \{ /\* pathserve_reply\.why .*?\n"),
+    Place(HEADER, r"^    uint8_t kind; +/\* 1 to ", r" ", greatest("posts")),
+    Place(HEADER, r"^    uint8_t goal; +/\* 1 to ", r" ", greatest("goals")),
+    python_place("statuses", PYTHON_NATIVE, "Status"),
+    python_place("faults", PYTHON_NATIVE, "Fault"),
+    python_place("posts", PYTHON_POSTS, "PostKind"),
+    python_place("goals", PYTHON_POSTS, "GoalKind"),
+    python_place("replies", PYTHON_POSTS, "Kind"),
+    python_place("refusals", PYTHON_POSTS, "Refusal"),
+    Place(PYTHON_NATIVE, r"^class PostStruct\(.*?_fields_ = \[\n", r"    \]", python_struct),
+    Place(RUST_SYS, r"^pub const ANSWERS: u32 = \d+;\n\n", r"\n/// A match: ", rust_numbers),
+    Place(RUST_SYS, r"^pub struct Post \{\n", r"\}", rust_struct),
+    Place(RUST_POSTS, r"^pub enum Refusal \{\n", r"\}", rust_refusals),
+    Place(RUST_POSTS, r"^fn refusal\(.*\n    match why \{\n", r"        other ", rust_refusal_arms),
+    csharp_place("statuses", "Status"),
+    csharp_place("posts", "PostKind"),
+    csharp_place("goals", "GoalKind", none=True),
+    csharp_place("faults", "PostFault", none=True),
+    csharp_place("replies", "ReplyKind"),
+    csharp_place("refusals", "Refusal", none=True),
+    *script_places("statuses", "Status"),
+    *script_places("faults", "PostFault"),
+    *script_places("posts", "PostKind"),
+    *script_places("goals", "GoalKind"),
+    Place(SCRIPT, r'^const KINDS = \["", ', r"\]", script_names("replies", ", ")),
+    Place(SCRIPT, r'^const WHYS = \["", ', r"\]", script_names("refusals", ", ")),
+    Place(SCRIPT_TYPES, r"^export interface Post \{\n", r"\}", typed_post),
+    Place(SCRIPT_TYPES, r"^export type GoalFields = .*?\n\n", r"\n/\*\* Where ", typed_makers),
+    Place(SCRIPT_TYPES, r"^export const Goal: Readonly<\{\n", r"\}", typed_goals),
+    Place(SCRIPT_TYPES, r"^export interface Reply \{.*?  kind: ", ";", script_names("replies", " | ")),
+    Place(SCRIPT_TYPES, r"^  why\?: ", ";", script_names("refusals", " | ")),
+]
+
+
+def main(words):
+    if words == ["--write"]:
+        marks.write(PLACES)
+        return 0
+    if words == ["--check"]:
+        return marks.check(PLACES, "tools/forms.py --write")
+    if words:
+        return commands.usage(__doc__, words)
     for line in lines():
         print(line)
+    return 0
 
 
 if __name__ == "__main__":
-    sys.exit(main())
+    commands.run(lambda: main(sys.argv[1:]))

@@ -27,7 +27,10 @@ namespace Pathserve
 
     public enum PostFault : uint { None = 0, WrongKind = 1, WrongCaller = 2, WrongClass = 3, WrongGoal = 4, NotZero = 5 }
 
-    public enum ReplyKind : byte { Added = 1, Removed = 2, Moved = 3, Refused = 4, Nowhere = 5, AtGoal = 6, NearGoal = 7, InRegion = 8 }
+    public enum ReplyKind : byte
+    {
+        Added = 1, Removed = 2, Moved = 3, Refused = 4, Nowhere = 5, AtGoal = 6, NearGoal = 7, InRegion = 8
+    }
 
     public enum Refusal : byte
     {

@@ -1,39 +1,57 @@
 """The table of forms beside what is written of it elsewhere: the header, the packages, the page and the client that checks."""
+import contextlib
 import copy
+import io
 import json
+import os
 import re
+import shutil
 import sys
+import tempfile
 import unittest
+from unittest import mock
 
 from places import TOP, read, tool
 
 sys.path.insert(0, f"{TOP}/examples")
 import check  # noqa: E402
 import forms  # noqa: E402
+import specs  # noqa: E402
 
-HEADER = read("include/pathserve.h").decode()
-PYTHON = read("examples/python/pathserve/posts.py").decode()
-RUST = read("examples/rust/pathserve/src/posts.rs").decode()
+
+def snake(name):
+    """A name such as `AddUnit`, `addUnit` or `add_unit` as `ADD_UNIT`."""
+    return re.sub(r"(?<=[a-z])(?=[A-Z])", "_", name).upper()
+
+
+def count_of(wanted):
+    """How many items an array has, or None where no array of decimals is wanted."""
+    several = re.fullmatch(r"(\w+)Decimals", wanted)
+    return WORDS.index(several[1]) + 1 if several else {"NumberAndDecimal": 2}.get(wanted)
+
+
 PAGE = read("docs/FORMAT.md").decode().partition("\n## The script\n")[2].partition("\n### Why a line is bad\n")[0]
-COUNTS = {"TwoDecimals": 2, "ThreeDecimals": 3, "SixDecimals": 6, "NumberAndDecimal": 2}
 ROWS = {"Map": "map", "Base": "base", "AddUnit": "add", "AddSquare": "add", "Remove": "remove", "Move": "move", "Path": "path",
         "Region": "region", "End": "end"}
-
-
-def camel(name):
-    return "".join(it.capitalize() for it in name.split("_"))
-
-
-def enum_of(mark):
-    """The names and numbers of the header's enum that has a mark."""
-    text, = (it for it in re.findall(r"enum \{(.*?)\n\}", HEADER, re.DOTALL) if mark in it)
-    return {name: int(number) for name, number in re.findall(r"PATHSERVE_([A-Z_]+) = (\d+)", text)}
-
-
-def python_class(text, name):
-    """The names and numbers of an enum of the package for Python."""
-    body = re.search(rf"^class {name}\(.*?\):\n(.*?)(?=^\S|\Z)", text, re.DOTALL | re.MULTILINE)[1]
-    return {name: int(number) for name, number in re.findall(r"^    ([A-Z_]+) = (\d+)$", body, re.MULTILINE)}
+WORDS = ["One", "Two", "Three", "Four", "Five", "Six"]
+# In each file that has makers of posts: what these stand in, and how they name a kind.
+MAKERS = {
+    forms.HEADER: (r"^PATHSERVE_MAKER .*?^\}", r"PATHSERVE_([A-Z_]+)"),
+    "examples/cpp/pathserve.hpp": (r"^inline Post .*?^\}|^class Goal .*?^\}", r"PATHSERVE_([A-Z_]+)"),
+    forms.PYTHON_POSTS: (r".+", r"(?:Post|Goal)Kind\.([A-Z_]+)"),
+    forms.RUST_POSTS: (r"fn raw\(.*?^    \}", r"sys::([A-Z_]+)"),
+    forms.CSHARP: (r"public struct Post$.*?^    \}", r"(?:Post|Goal)Kind\.(\w+)"),
+    forms.SCRIPT: (r"^// ---- posts$.*?^\}\);$", r"(?:Post|Goal)Kind\.([A-Z_]+)"),
+}
+# Makers that stand for one kind, and what reads one: the name, and the kind.
+NAMED = [
+    (forms.PYTHON_POSTS, r'^def (\w+)\([^)]*\) -> Post:\n(?:    """[^\n]*"""\n)?    return Post\(PostKind\.(\w+),'),
+    (forms.RUST_POSTS, r"Post::(\w+) \{[^}]*\} => (?:\{\s*)?sys::Post \{ kind: sys::(\w+),"),
+    (forms.RUST_POSTS, r"Goal::(\w+) \{[^}]*\} => (?:\{\s*)?sys::Post \{ goal: sys::(\w+),"),
+    (forms.CSHARP, r"public static Post (\w+)\([^)]*\)\s*\{[^}]*? Kind = PostKind\.(\w+)"),
+    (forms.SCRIPT, r"^export const (\w+) = \(.*?\) => \(\{ kind: PostKind\.(\w+),"),
+]
+OUTCOMES = r"sys::([A-Z_]+) => Outcome::(\w+)"
 
 
 def page_lines():
@@ -69,39 +87,60 @@ class Table(unittest.TestCase):
             self.assertRegex(out.decode(), rf"(?m)^    {key} ")
 
 
-class Header(unittest.TestCase):
-    def test_each_number_is_in_its_enum(self):
-        marks = {"posts": "pathserve_post.kind", "goals": "pathserve_post.goal", "replies": "pathserve_reply.kind", "refusals": "pathserve_reply.why"}
-        for of, mark in marks.items():
-            comment = re.search(rf"enum \{{ /\* {re.escape(mark)}\b.*?\n\}}", HEADER, re.DOTALL)[0]
-            found = {name: int(number) for name, number in re.findall(r"PATHSERVE_([A-Z_]+) = (\d+)", comment)}
-            self.assertEqual(found, forms.numbers(of), of)
-        self.assertEqual(enum_of("PATHSERVE_DONE"), forms.numbers("statuses"))
+class Written(unittest.TestCase):
+    def test_all_places_are_current(self):
+        out, status, said = tool("tools/forms.py", "--check")
+        self.assertEqual((out, status, said), (b"", 0, ""))
+
+    def test_what_is_new_is_written_to_each_place(self):
+        """A number more of each kind and a field more come into each file, and go again where the crates have them no more."""
+        numbers, fields = {of: forms.numbers(of) for of in forms.NUMBERS}, forms.post_fields()
+        more = {of: [*its, forms.Number("LEAP_FROG", 99, its[0].type, "a leap")] for of, its in numbers.items()}
+        files = list(dict.fromkeys(it.file for it in forms.PLACES))
+        with tempfile.TemporaryDirectory() as top, mock.patch.object(specs, "TOP", top):
+            for file in files:
+                os.makedirs(os.path.dirname(f"{top}/{file}"), exist_ok=True)
+                shutil.copy(f"{TOP}/{file}", f"{top}/{file}")
+            with mock.patch.multiple(forms, numbers=more.get, post_fields=lambda: [*fields, ("leap_far", "u64")]):
+                self.assertEqual([forms.main(["--write"]), forms.main(["--check"])], [0, 0])
+                for file in files:
+                    self.assertRegex(specs.read(file), r"(?i)\bleap[_-]?frog\b|\bPATHSERVE_LEAP_FROG = 99 ", file)
+                for file in (forms.PYTHON_NATIVE, forms.RUST_SYS, forms.SCRIPT_TYPES):
+                    self.assertRegex(specs.read(file), r"\bleap_?[fF]ar\b", file)
+            with mock.patch.multiple(forms, numbers=numbers.get, post_fields=lambda: fields):
+                with contextlib.redirect_stderr(io.StringIO()) as said:
+                    self.assertEqual([forms.main(["--check"]), forms.main(["--write"])], [1, 0])
+                self.assertEqual(said.getvalue().count("\n"), len(files))
+            for file in files:
+                self.assertEqual(specs.read(file), read(file).decode(), file)
+
+    def test_comments_of_the_header_stay(self):
+        with mock.patch.object(forms, "numbers", lambda of: [forms.Number("POINT", 1, "u8", "new"), forms.Number("RING", 2, "u8", "new too")]):
+            self.assertEqual(
+                forms.header_enum("goals")("    PATHSERVE_POINT = 1 /* old */\n"),
+                "    PATHSERVE_POINT = 1, /* old */\n    PATHSERVE_RING = 2   /* new too */\n",
+            )
 
 
-class Packages(unittest.TestCase):
-    def test_the_one_for_python(self):
-        made = re.findall(r'^def (\w+)\([^)]*\) -> Post:\n(?:    """[^\n]*"""\n)?    return Post\((\d+),', PYTHON, re.MULTILINE)
-        self.assertEqual({name.upper(): int(number) for name, number in made}, forms.numbers("posts"))
-        goals = re.findall(r"    def (\w+)\(.*?\) -> Goal:\n        return Goal\((?:(\d) if outside else )?(\d)", PYTHON)
-        found = {name.upper(): int(number) for name, _, number in goals} | {f"NOT_{name.upper()}": int(outside) for name, outside, _ in goals if outside}
-        self.assertEqual(found, forms.numbers("goals"))
-        self.assertEqual(python_class(PYTHON, "Kind"), forms.numbers("replies"))
-        self.assertEqual(python_class(PYTHON, "Refusal"), forms.numbers("refusals"))
-        self.assertEqual(python_class(read("examples/python/pathserve/native.py").decode(), "Status"), forms.numbers("statuses"))
+class Makers(unittest.TestCase):
+    """What makes posts by hand in each language has each kind of them and of goals."""
 
-    def test_the_one_for_rust(self):
-        posts = re.findall(r"Post::(\w+) \{[^}]*\} => (?:\{\s*)?sys::Post \{ kind: (\d),", RUST)
-        self.assertEqual({name: int(number) for name, number in posts}, {camel(name): it for name, it in forms.numbers("posts").items()})
-        goals = re.findall(r"Goal::(\w+) \{[^}]*\} => (?:\{\s*)?sys::Post \{ goal: (\d),", RUST)
-        self.assertEqual({name: int(number) for name, number in goals}, {camel(name): it for name, it in forms.numbers("goals").items()})
-        refusals = re.findall(r"(\d) => Refusal::(\w+),", RUST)
-        self.assertEqual({name: int(number) for number, name in refusals}, {camel(name): it for name, it in forms.numbers("refusals").items()})
-        replies = re.findall(r"(\d) => Outcome::(\w+)", RUST)
-        self.assertEqual({name: int(number) for number, name in replies}, {camel(name): it for name, it in forms.numbers("replies").items()})
-        sys_ = read("examples/rust/pathserve-sys/src/lib.rs").decode()
-        statuses = {name: int(number) for name, number in re.findall(r"^pub const ([A-Z_]+): u32 = (\d+);", sys_, re.MULTILINE)}
-        self.assertEqual({name: statuses.get(name) for name in forms.numbers("statuses")}, forms.numbers("statuses"))
+    def test_each_kind_has_one(self):
+        kinds = {*forms.values("posts"), *forms.values("goals")}
+        for file, (pattern, name) in MAKERS.items():
+            found = set(re.findall(name, "".join(re.findall(pattern, read(file).decode(), re.DOTALL | re.MULTILINE))))
+            self.assertEqual({snake(it) for it in found} & kinds, kinds, file)
+
+    def test_each_has_the_name_of_its_kind(self):
+        for file, pattern in NAMED:
+            found = re.findall(pattern, read(file).decode(), re.MULTILINE)
+            self.assertGreater(len(found), 3, pattern)
+            for name, kind in found:
+                self.assertEqual(snake(name), snake(kind))
+
+    def test_each_reply_is_read(self):
+        found = {snake(kind): snake(name) for kind, name in re.findall(OUTCOMES, read(forms.RUST_POSTS).decode())}
+        self.assertEqual(found, {it: it for it in forms.values("replies")})
 
 
 class Page(unittest.TestCase):
@@ -123,7 +162,7 @@ class Page(unittest.TestCase):
         shown = {key: value for it in page_lines() if "goal" in it for key, value in it["goal"].items()}
         self.assertEqual(set(shown), {key for key, _ in forms.goals().values()})
         for key, wanted in forms.goals().values():
-            self.assertEqual(len(shown[key]), COUNTS[wanted], key)
+            self.assertEqual(len(shown[key]), count_of(wanted), key)
 
 
 class Client(unittest.TestCase):
@@ -140,8 +179,8 @@ class Client(unittest.TestCase):
         for line in page_lines():
             fields, = (it for it in forms.forms().values() if set(it) == set(line))
             for key, wanted in fields.items():
-                if wanted in COUNTS:
-                    self.assertEqual(len(line[key]), COUNTS[wanted])
+                if count_of(wanted):
+                    self.assertEqual(len(line[key]), count_of(wanted))
                     for other in (line[key][:-1], line[key] + ["1"]):
                         with self.assertRaises(check.BadLine):
                             reads(line | {key: other})

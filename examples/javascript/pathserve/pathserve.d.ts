@@ -4,11 +4,15 @@ export const NAVCELL: number;
 export function fixed(navcells: number): number;
 
 export const Status: Readonly<{
-  DONE: 0; BAD_LINE: 3; NO_MEMORY: 6; TOO_LONG: 7; CLOSED: 16; OPEN: 17; OTHER: 18; ENDED: 19; NO_MAP: 20; BAD_VALUE: 21; SMALL: 22;
+  DONE: 0; BAD_LINE: 3; NO_MEMORY: 6; TOO_LONG: 7; CLOSED: 16; OPEN: 17; OTHER: 18; ENDED: 19; NO_MAP: 20; BAD_VALUE: 21; SMALL: 22
 }>;
 
 /** What is wrong with a post, as `check` says it. */
 export const PostFault: Readonly<{ WRONG_KIND: 1; WRONG_CALLER: 2; WRONG_CLASS: 3; WRONG_GOAL: 4; NOT_ZERO: 5 }>;
+
+/** The kinds of posts, and of the goals of paths. */
+export const PostKind: Readonly<{ ADD_UNIT: 1; ADD_SQUARE: 2; REMOVE: 3; MOVE: 4; PATH: 5; REGION: 6 }>;
+export const GoalKind: Readonly<{ POINT: 1; CIRCLE: 2; NOT_CIRCLE: 3; SQUARE: 4; NOT_SQUARE: 5; OBSTRUCTION: 6 }>;
 
 /** A call that ended with another status than DONE. Of a `feed` without memory, `taken` is how many bytes were taken. */
 export class Failed extends Error {
@@ -38,9 +42,9 @@ export function region(caller: number, classNumber: number, x: number, z: number
 
 /** Where a path shall lead. */
 export const Goal: Readonly<{
-  point(x: number, z: number): GoalFields;
-  circle(x: number, z: number, radius: number, outside?: boolean): GoalFields;
-  square(x: number, z: number, ux: number, uz: number, hw: number, hh: number, outside?: boolean): GoalFields;
+  point(goalX: number, goalZ: number): GoalFields;
+  circle(goalX: number, goalZ: number, radius: number, outside?: boolean): GoalFields;
+  square(goalX: number, goalZ: number, ux: number, uz: number, hw: number, hh: number, outside?: boolean): GoalFields;
   obstruction(id: number, distance: number): GoalFields;
 }>;
 

@@ -22,11 +22,15 @@ export const NAVCELL = 65536;
 export const fixed = (navcells) => Math.floor(navcells * NAVCELL);
 
 export const Status = Object.freeze({
-  DONE: 0, BAD_LINE: 3, NO_MEMORY: 6, TOO_LONG: 7, CLOSED: 16, OPEN: 17, OTHER: 18, ENDED: 19, NO_MAP: 20, BAD_VALUE: 21, SMALL: 22,
+  DONE: 0, BAD_LINE: 3, NO_MEMORY: 6, TOO_LONG: 7, CLOSED: 16, OPEN: 17, OTHER: 18, ENDED: 19, NO_MAP: 20, BAD_VALUE: 21, SMALL: 22
 });
 
 /** What is wrong with a post, as `check` says it. */
 export const PostFault = Object.freeze({ WRONG_KIND: 1, WRONG_CALLER: 2, WRONG_CLASS: 3, WRONG_GOAL: 4, NOT_ZERO: 5 });
+
+/** The kinds of posts, and of the goals of paths. */
+export const PostKind = Object.freeze({ ADD_UNIT: 1, ADD_SQUARE: 2, REMOVE: 3, MOVE: 4, PATH: 5, REGION: 6 });
+export const GoalKind = Object.freeze({ POINT: 1, CIRCLE: 2, NOT_CIRCLE: 3, SQUARE: 4, NOT_SQUARE: 5, OBSTRUCTION: 6 });
 
 const nameOf = (status) => Object.keys(Status).find((it) => Status[it] === status) ?? `status ${status}`;
 
@@ -87,26 +91,26 @@ function fitting(name, kind, value) {
 // ---- posts
 
 /** Adds a square along the axes under a number, for the classes of the mask. */
-export const addUnit = (caller, id, mask, x, z, half) => ({ kind: 1, caller, id, mask, x, z, radius: half });
+export const addUnit = (caller, id, mask, x, z, half) => ({ kind: PostKind.ADD_UNIT, caller, id, mask, x, z, radius: half });
 /** Adds a rectangle along the unit vector (ux, uz) under a number, for the classes of the mask. */
-export const addSquare = (caller, id, mask, x, z, ux, uz, hw, hh) => ({ kind: 2, caller, id, mask, x, z, ux, uz, hw, hh });
-export const remove = (caller, id) => ({ kind: 3, caller, id });
-export const move = (caller, id, x, z) => ({ kind: 4, caller, id, x, z });
+export const addSquare = (caller, id, mask, x, z, ux, uz, hw, hh) => ({ kind: PostKind.ADD_SQUARE, caller, id, mask, x, z, ux, uz, hw, hh });
+export const remove = (caller, id) => ({ kind: PostKind.REMOVE, caller, id });
+export const move = (caller, id, x, z) => ({ kind: PostKind.MOVE, caller, id, x, z });
 /** Asks for a path of a class from the point (x, z) to a goal. */
-export const path = (caller, classNumber, x, z, goal) => ({ kind: 5, caller, classNumber, x, z, ...goal });
+export const path = (caller, classNumber, x, z, goal) => ({ kind: PostKind.PATH, caller, classNumber, x, z, ...goal });
 /** Asks in which region and area of a class the point (x, z) lies. */
-export const region = (caller, classNumber, x, z) => ({ kind: 6, caller, classNumber, x, z });
+export const region = (caller, classNumber, x, z) => ({ kind: PostKind.REGION, caller, classNumber, x, z });
 
 /** The post by which caller 0 adds the obstruction of these fields. */
 const addOf = ({ kind, id, mask, x, z, ux, uz, hw, hh, radius }) =>
-  kind === 1 ? addUnit(0, id, mask, x, z, radius) : addSquare(0, id, mask, x, z, ux, uz, hw, hh);
+  kind === PostKind.ADD_UNIT ? addUnit(0, id, mask, x, z, radius) : addSquare(0, id, mask, x, z, ux, uz, hw, hh);
 
 /** Where a path shall lead. */
 export const Goal = Object.freeze({
-  point: (goalX, goalZ) => ({ goal: 1, goalX, goalZ }),
-  circle: (goalX, goalZ, radius, outside = false) => ({ goal: outside ? 3 : 2, goalX, goalZ, radius }),
-  square: (goalX, goalZ, ux, uz, hw, hh, outside = false) => ({ goal: outside ? 5 : 4, goalX, goalZ, ux, uz, hw, hh }),
-  obstruction: (id, distance) => ({ goal: 6, id, radius: distance }),
+  point: (goalX, goalZ) => ({ goal: GoalKind.POINT, goalX, goalZ }),
+  circle: (goalX, goalZ, radius, outside = false) => ({ goal: outside ? GoalKind.NOT_CIRCLE : GoalKind.CIRCLE, goalX, goalZ, radius }),
+  square: (goalX, goalZ, ux, uz, hw, hh, outside = false) => ({ goal: outside ? GoalKind.NOT_SQUARE : GoalKind.SQUARE, goalX, goalZ, ux, uz, hw, hh }),
+  obstruction: (id, distance) => ({ goal: GoalKind.OBSTRUCTION, id, radius: distance }),
 });
 
 const KINDS = ["", "added", "removed", "moved", "refused", "nowhere", "at-goal", "near-goal", "in-region"];

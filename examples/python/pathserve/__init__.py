@@ -16,10 +16,12 @@ from .posts import (
     NAVCELL,
     Cell,
     Goal,
+    GoalKind,
     Kind,
     PassabilityClass,
     Path,
     Post,
+    PostKind,
     Rect,
     Refusal,
     Region,
@@ -35,7 +37,7 @@ from .posts import (
 from .views import FlowField, View
 
 __all__ = [
-    "NAVCELL", "BadLine", "BadPost", "Cell", "Failed", "Fault", "Finder", "FlowField", "Goal", "Kind", "OutOfMemory",
-    "PassabilityClass", "Path", "Post", "PostedMatch", "Rect", "Refusal", "Region", "Reply", "Status", "TextMatch", "Turn", "View",
-    "add_square", "add_unit", "fixed", "load", "move", "path", "region", "remove",
+    "NAVCELL", "BadLine", "BadPost", "Cell", "Failed", "Fault", "Finder", "FlowField", "Goal", "GoalKind", "Kind", "OutOfMemory",
+    "PassabilityClass", "Path", "Post", "PostKind", "PostedMatch", "Rect", "Refusal", "Region", "Reply", "Status", "TextMatch", "Turn",
+    "View", "add_square", "add_unit", "fixed", "load", "move", "path", "region", "remove",
 ]

@@ -16,6 +16,24 @@ def fixed(navcells: float) -> int:
     return math.floor(navcells * NAVCELL)
 
 
+class PostKind(enum.IntEnum):
+    ADD_UNIT = 1
+    ADD_SQUARE = 2
+    REMOVE = 3
+    MOVE = 4
+    PATH = 5
+    REGION = 6
+
+
+class GoalKind(enum.IntEnum):
+    POINT = 1
+    CIRCLE = 2
+    NOT_CIRCLE = 3
+    SQUARE = 4
+    NOT_SQUARE = 5
+    OBSTRUCTION = 6
+
+
 class Post(NamedTuple):
     """A post, by the fields of the C struct; those that its kind does not use are 0."""
 
@@ -41,20 +59,20 @@ class Post(NamedTuple):
 
 def add_unit(caller: int, number: int, mask: int, x: int, z: int, half: int) -> Post:
     """Adds a square along the axes under a number, for the classes of the mask."""
-    return Post(1, caller, mask=mask, id=number, x=x, z=z, radius=half)
+    return Post(PostKind.ADD_UNIT, caller, mask=mask, id=number, x=x, z=z, radius=half)
 
 
 def add_square(caller: int, number: int, mask: int, x: int, z: int, ux: int, uz: int, hw: int, hh: int) -> Post:
     """Adds a rectangle along the unit vector (ux, uz) under a number, for the classes of the mask."""
-    return Post(2, caller, mask=mask, id=number, x=x, z=z, ux=ux, uz=uz, hw=hw, hh=hh)
+    return Post(PostKind.ADD_SQUARE, caller, mask=mask, id=number, x=x, z=z, ux=ux, uz=uz, hw=hw, hh=hh)
 
 
 def remove(caller: int, number: int) -> Post:
-    return Post(3, caller, id=number)
+    return Post(PostKind.REMOVE, caller, id=number)
 
 
 def move(caller: int, number: int, x: int, z: int) -> Post:
-    return Post(4, caller, id=number, x=x, z=z)
+    return Post(PostKind.MOVE, caller, id=number, x=x, z=z)
 
 
 class Goal(NamedTuple):
@@ -72,29 +90,29 @@ class Goal(NamedTuple):
 
     @staticmethod
     def point(x: int, z: int) -> Goal:
-        return Goal(1, x, z)
+        return Goal(GoalKind.POINT, x, z)
 
     @staticmethod
     def circle(x: int, z: int, radius: int, outside: bool = False) -> Goal:
-        return Goal(3 if outside else 2, x, z, radius=radius)
+        return Goal(GoalKind.NOT_CIRCLE if outside else GoalKind.CIRCLE, x, z, radius=radius)
 
     @staticmethod
     def square(x: int, z: int, ux: int, uz: int, hw: int, hh: int, outside: bool = False) -> Goal:
-        return Goal(5 if outside else 4, x, z, ux, uz, hw, hh)
+        return Goal(GoalKind.NOT_SQUARE if outside else GoalKind.SQUARE, x, z, ux, uz, hw, hh)
 
     @staticmethod
     def obstruction(number: int, distance: int) -> Goal:
-        return Goal(6, id=number, radius=distance)
+        return Goal(GoalKind.OBSTRUCTION, id=number, radius=distance)
 
 
 def path(caller: int, class_number: int, x: int, z: int, goal: Goal) -> Post:
     """Asks for a path of a class from the point (x, z) to a goal."""
-    return Post(5, caller, class_number, x=x, z=z, **goal._asdict())
+    return Post(PostKind.PATH, caller, class_number, x=x, z=z, **goal._asdict())
 
 
 def region(caller: int, class_number: int, x: int, z: int) -> Post:
     """Asks in which region and area of a class the point (x, z) lies."""
-    return Post(6, caller, class_number, x=x, z=z)
+    return Post(PostKind.REGION, caller, class_number, x=x, z=z)
 
 
 class Kind(enum.IntEnum):

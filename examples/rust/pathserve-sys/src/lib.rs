@@ -6,6 +6,43 @@ use core::ffi::c_void;
 pub const VERSION: u32 = 1 << 8;
 pub const ANSWERS: u32 = 2;
 
+pub const ADD_UNIT: u8 = 1;
+pub const ADD_SQUARE: u8 = 2;
+pub const REMOVE: u8 = 3;
+pub const MOVE: u8 = 4;
+pub const PATH: u8 = 5;
+pub const REGION: u8 = 6;
+
+pub const POINT: u8 = 1;
+pub const CIRCLE: u8 = 2;
+pub const NOT_CIRCLE: u8 = 3;
+pub const SQUARE: u8 = 4;
+pub const NOT_SQUARE: u8 = 5;
+pub const OBSTRUCTION: u8 = 6;
+
+pub const WRONG_KIND: u32 = 1;
+pub const WRONG_CALLER: u32 = 2;
+pub const WRONG_CLASS: u32 = 3;
+pub const WRONG_GOAL: u32 = 4;
+pub const NOT_ZERO: u32 = 5;
+
+pub const ADDED: u8 = 1;
+pub const REMOVED: u8 = 2;
+pub const MOVED: u8 = 3;
+pub const REFUSED: u8 = 4;
+pub const NOWHERE: u8 = 5;
+pub const AT_GOAL: u8 = 6;
+pub const NEAR_GOAL: u8 = 7;
+pub const IN_REGION: u8 = 8;
+
+pub const BAD_SHAPE: u8 = 1;
+pub const DUPLICATE_ID: u8 = 2;
+pub const STORE_FULL: u8 = 3;
+pub const UNKNOWN_ID: u8 = 4;
+pub const UNKNOWN_CLASS: u8 = 5;
+pub const START_OUTSIDE: u8 = 6;
+pub const GOAL_OUTSIDE: u8 = 7;
+
 pub const DONE: u32 = 0;
 pub const BAD_LINE: u32 = 3;
 pub const NO_MEMORY: u32 = 6;
@@ -17,12 +54,6 @@ pub const ENDED: u32 = 19;
 pub const NO_MAP: u32 = 20;
 pub const BAD_VALUE: u32 = 21;
 pub const SMALL: u32 = 22;
-
-pub const WRONG_KIND: u32 = 1;
-pub const WRONG_CALLER: u32 = 2;
-pub const WRONG_CLASS: u32 = 3;
-pub const WRONG_GOAL: u32 = 4;
-pub const NOT_ZERO: u32 = 5;
 
 /// A match: all zero before it is opened, written by the library alone, never copied.
 #[repr(C)]

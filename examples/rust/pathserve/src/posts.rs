@@ -55,17 +55,19 @@ impl Post {
         let none = sys::Post::default();
         match *self {
             Post::AddUnit { caller, id, mask, x, z, half } => {
-                sys::Post { kind: 1, caller, id, mask, x, z, radius: half, ..none }
+                sys::Post { kind: sys::ADD_UNIT, caller, id, mask, x, z, radius: half, ..none }
             }
             Post::AddSquare { caller, id, mask, x, z, ux, uz, hw, hh } => {
-                sys::Post { kind: 2, caller, id, mask, x, z, ux, uz, hw, hh, ..none }
+                sys::Post { kind: sys::ADD_SQUARE, caller, id, mask, x, z, ux, uz, hw, hh, ..none }
             }
-            Post::Remove { caller, id } => sys::Post { kind: 3, caller, id, ..none },
-            Post::Move { caller, id, x, z } => sys::Post { kind: 4, caller, id, x, z, ..none },
+            Post::Remove { caller, id } => sys::Post { kind: sys::REMOVE, caller, id, ..none },
+            Post::Move { caller, id, x, z } => sys::Post { kind: sys::MOVE, caller, id, x, z, ..none },
             Post::Path { caller, class, x, z, goal } => {
-                sys::Post { kind: 5, caller, class_number: class, x, z, ..goal.raw() }
+                sys::Post { kind: sys::PATH, caller, class_number: class, x, z, ..goal.raw() }
             }
-            Post::Region { caller, class, x, z } => sys::Post { kind: 6, caller, class_number: class, x, z, ..none },
+            Post::Region { caller, class, x, z } => {
+                sys::Post { kind: sys::REGION, caller, class_number: class, x, z, ..none }
+            }
         }
     }
 }
@@ -74,8 +76,8 @@ impl Post {
 pub(crate) fn add_of(post: &sys::Post) -> Post {
     let sys::Post { caller, id, mask, x, z, ux, uz, hw, hh, radius, .. } = *post;
     match post.kind {
-        1 => Post::AddUnit { caller, id, mask, x, z, half: radius },
-        2 => Post::AddSquare { caller, id, mask, x, z, ux, uz, hw, hh },
+        sys::ADD_UNIT => Post::AddUnit { caller, id, mask, x, z, half: radius },
+        sys::ADD_SQUARE => Post::AddSquare { caller, id, mask, x, z, ux, uz, hw, hh },
         other => unreachable!("an obstruction of the kind {other}"),
     }
 }
@@ -84,16 +86,18 @@ impl Goal {
     fn raw(self) -> sys::Post {
         let none = sys::Post::default();
         match self {
-            Goal::Point { x, z } => sys::Post { goal: 1, goal_x: x, goal_z: z, ..none },
-            Goal::Circle { x, z, radius } => sys::Post { goal: 2, goal_x: x, goal_z: z, radius, ..none },
-            Goal::NotCircle { x, z, radius } => sys::Post { goal: 3, goal_x: x, goal_z: z, radius, ..none },
+            Goal::Point { x, z } => sys::Post { goal: sys::POINT, goal_x: x, goal_z: z, ..none },
+            Goal::Circle { x, z, radius } => sys::Post { goal: sys::CIRCLE, goal_x: x, goal_z: z, radius, ..none },
+            Goal::NotCircle { x, z, radius } => {
+                sys::Post { goal: sys::NOT_CIRCLE, goal_x: x, goal_z: z, radius, ..none }
+            }
             Goal::Square { x, z, ux, uz, hw, hh } => {
-                sys::Post { goal: 4, goal_x: x, goal_z: z, ux, uz, hw, hh, ..none }
+                sys::Post { goal: sys::SQUARE, goal_x: x, goal_z: z, ux, uz, hw, hh, ..none }
             }
             Goal::NotSquare { x, z, ux, uz, hw, hh } => {
-                sys::Post { goal: 5, goal_x: x, goal_z: z, ux, uz, hw, hh, ..none }
+                sys::Post { goal: sys::NOT_SQUARE, goal_x: x, goal_z: z, ux, uz, hw, hh, ..none }
             }
-            Goal::Obstruction { id, distance } => sys::Post { goal: 6, id, radius: distance, ..none },
+            Goal::Obstruction { id, distance } => sys::Post { goal: sys::OBSTRUCTION, id, radius: distance, ..none },
         }
     }
 }
@@ -142,13 +146,13 @@ pub struct Reply {
 
 fn refusal(why: u8) -> Refusal {
     match why {
-        1 => Refusal::BadShape,
-        2 => Refusal::DuplicateId,
-        3 => Refusal::StoreFull,
-        4 => Refusal::UnknownId,
-        5 => Refusal::UnknownClass,
-        6 => Refusal::StartOutside,
-        7 => Refusal::GoalOutside,
+        sys::BAD_SHAPE => Refusal::BadShape,
+        sys::DUPLICATE_ID => Refusal::DuplicateId,
+        sys::STORE_FULL => Refusal::StoreFull,
+        sys::UNKNOWN_ID => Refusal::UnknownId,
+        sys::UNKNOWN_CLASS => Refusal::UnknownClass,
+        sys::START_OUTSIDE => Refusal::StartOutside,
+        sys::GOAL_OUTSIDE => Refusal::GoalOutside,
         other => unreachable!("a refusal of the kind {other}"),
     }
 }
@@ -165,14 +169,14 @@ pub(crate) fn reply_of(reply: &sys::Reply, waypoints: &[sys::Cell]) -> Reply {
         }
     };
     let outcome = match reply.kind {
-        1 => Outcome::Added(reply.id),
-        2 => Outcome::Removed(reply.id),
-        3 => Outcome::Moved(reply.id),
-        4 => Outcome::Refused(refusal(reply.why)),
-        5 => Outcome::Nowhere,
-        6 => Outcome::AtGoal(path()),
-        7 => Outcome::NearGoal(path()),
-        8 => Outcome::InRegion { chunk: reply.chunk, region: reply.region, area: reply.area },
+        sys::ADDED => Outcome::Added(reply.id),
+        sys::REMOVED => Outcome::Removed(reply.id),
+        sys::MOVED => Outcome::Moved(reply.id),
+        sys::REFUSED => Outcome::Refused(refusal(reply.why)),
+        sys::NOWHERE => Outcome::Nowhere,
+        sys::AT_GOAL => Outcome::AtGoal(path()),
+        sys::NEAR_GOAL => Outcome::NearGoal(path()),
+        sys::IN_REGION => Outcome::InRegion { chunk: reply.chunk, region: reply.region, area: reply.area },
         other => unreachable!("a reply of the kind {other}"),
     };
     Reply { caller: reply.caller, post: reply.post, outcome }
