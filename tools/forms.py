@@ -1,7 +1,7 @@
 #!/usr/bin/env python3
 """Prints the table of forms: the keys of each line and goal of a script, what stands under them, and the numbers of the C structs.
 
-It is read out of the crates: the forms out of the table of script_text, the numbers and the post out of flat_posts and
+It is read out of the crates: the forms out of the table of script_text, the numbers and the post as a struct out of flat_posts and
 pathserve_c. `forms.py --write` writes the numbers, and the post as a struct, wherever the header and the packages repeat
 them; `forms.py --check` writes nothing and ends with 1 where one of these is not current. What is written by hand beside
 them, makers of posts, docs/FORMAT.md and examples/check.py, `tools/tests/test_forms.py` holds against the table.
@@ -99,10 +99,33 @@ def values(of):
     return {it.name: it.value for it in numbers(of)}
 
 
+class Field(NamedTuple):
+    """A field of a struct: its name, its type, and what it holds where the crates say it."""
+
+    name: str
+    type: str
+    about: str = ""
+
+    def camel(self):
+        first, *others = self.name.split("_")
+        return first + "".join(it.capitalize() for it in others)
+
+
 def post_fields():
-    """The fields of a post as a struct, each with its type."""
+    """The fields of a post as a struct."""
     body = re.search(r"^pub struct FlatPost \{\n(.*?)^\}", read(POST), re.MULTILINE | re.DOTALL)[1]
-    return re.findall(r"pub (\w+): (\w+),", body)
+    found = re.findall(r"(?:^    /// (.*)\.\n)?^    pub (\w+): (\w+),$", body, re.MULTILINE)
+    return [Field(name, type_, about[:1].lower() + about[1:]) for about, name, type_ in found]
+
+
+def post_size():
+    """How many bytes a post has as a struct."""
+    return re.search(r"size_of::<FlatPost>\(\) == (\d+)", read(POST))[1]
+
+
+def of_one_type(fields):
+    """Fields that stand together and have one type: the type, and these."""
+    return [(type_, [*its]) for type_, its in itertools.groupby(fields, lambda it: it.type)]
 
 
 def lines():
@@ -117,7 +140,7 @@ def lines():
         yield f"numbers of {of}"
         yield from (f"    {value:>2} {name}" for name, value in values(of).items())
     yield "fields of a post"
-    yield from (f"    {type_:<4} {name}" for name, type_ in post_fields())
+    yield from (f"    {it.type:<4} {it.name}" for it in post_fields())
 
 
 # ---- what repeats it
@@ -158,19 +181,41 @@ def greatest(of):
     return lambda _: str(max(values(of).values()))
 
 
+def header_struct(old):
+    """The fields. Those that stand in one line stay there, and a comment stays; a new one has that of the crates."""
+    rows = re.findall(r"^    \w+ ([\w, ]+);(?: +/\* (.*) \*/)?$", old, re.MULTILINE)
+    row_of = {name: row for row in rows for name in row[0].split(", ")}
+    found = []
+    for row, fields in itertools.groupby(post_fields(), lambda it: row_of.get(it.name, (it.name, it.about))):
+        first, *others = fields
+        of_c = "pathserve_fixed" if first.type == "i32" else f"uint{first.type[1:]}_t"
+        found.append((f"{of_c} {', '.join(it.name for it in (first, *others))};", row[1]))
+    width = max(len(it) for it, _ in found)
+    return "".join(f"    {names:<{width}} /* {about} */\n" if about else f"    {names}\n" for names, about in found)
+
+
+def empty_post(_):
+    count = len(post_fields())
+    return f"{{{', '.join('0' * count)}}} /* each of the {count}"
+
+
 def python_enum(of):
     return lambda _: "\n".join(f"    {name} = {value}" for name, value in values(of).items())
 
 
 def python_struct(_):
-    """The fields, those of one type that stand together in one line."""
     text = ""
-    for type_, fields in itertools.groupby(post_fields(), lambda it: it[1]):
-        names = [f'"{name}"' for name, _ in fields]
+    for type_, fields in of_one_type(post_fields()):
         of_c = f"c_uint{type_[1:]}" if type_[0] == "u" else f"c_int{type_[1:]}"
+        names = [f'"{it.name}"' for it in fields]
         line = f"({names[0]}, {of_c})" if len(names) == 1 else f"*[(name, {of_c}) for name in ({', '.join(names)})]"
         text += f"        {line},\n"
     return text
+
+
+def python_post(_):
+    """The fields of the tuple. Those of a post that is not filled are 0, but for its kind."""
+    return "".join(f"    {it.name}: int{' = 0' * (it.name != 'kind')}\n" for it in post_fields() if it.name != "zero")
 
 
 def rust_numbers(_):
@@ -178,7 +223,7 @@ def rust_numbers(_):
 
 
 def rust_struct(_):
-    return "".join(f"    pub {name}: {type_},\n" for name, type_ in post_fields())
+    return "".join(f"    pub {it.name}: {it.type},\n" for it in post_fields())
 
 
 def rust_refusals(_):
@@ -200,6 +245,18 @@ def csharp_enum(of, none):
     return made
 
 
+def csharp_struct(_):
+    """The fields, those of one type that stand together in one line. The kinds have the types of their enums."""
+    types = {"u8": "public byte", "u16": "public ushort", "u32": "public uint", "u64": "public ulong", "i32": "public int"}
+    others = {"kind": "public PostKind", "goal": "public GoalKind", "zero": "private ushort"}
+    fields = [it._replace(type=others.get(it.name, types[it.type])) for it in post_fields()]
+    text = ""
+    for type_, its in of_one_type(fields):
+        names = [it.camel() if it.name == "zero" else it.camel()[0].upper() + it.camel()[1:] for it in its]
+        text += f"        {type_} {', '.join(names)};\n"
+    return text
+
+
 def script_object(of, between):
     """The fields of an object of JavaScript, or of its type, in one line where that has room for them."""
 
@@ -215,20 +272,26 @@ def script_names(of, between):
     return lambda _: between.join(f'"{it.with_dashes()}"' for it in numbers(of))
 
 
-def camel(name):
-    first, *others = name.split("_")
-    return first + "".join(it.capitalize() for it in others)
+def script_struct(_):
+    """The fields with the kinds that a DataView has for them."""
+    kinds = {"u8": "Uint8", "u16": "Uint16", "u32": "Uint32", "u64": "BigUint64", "i32": "Int32"}
+    items = []
+    for type_, fields in of_one_type(post_fields()):
+        names = ", ".join(f'"{it.camel()}"' for it in fields)
+        items.append(f'...all("{kinds[type_]}", {names})' if len(fields) > 1 else f'[{names}, "{kinds[type_]}"]')
+    return listed(items, ", ", "  ") + ",\n"
 
 
 def typed_post(_):
-    names = [camel(name) for name, _ in post_fields() if name != "zero"]
+    names = [it.camel() for it in post_fields() if it.name != "zero"]
     return listed([f"{name}{'?' * (name != 'kind')}: number;" for name in names], " ", "  ") + "\n"
 
 
 def typed(parameters):
     """Parameters of JavaScript with their types."""
-    others = {"goal": "goal: GoalFields", "outside = false": "outside?: boolean"}
-    return ", ".join(others.get(it, f"{it}: number") for it in parameters.split(", "))
+    others = {"goal": "GoalFields", "outside": "boolean"}
+    named = [it.partition(" = ") for it in parameters.split(", ")]
+    return ", ".join(f"{name}{'?' * bool(default)}: {others.get(name, 'number')}" for name, _, default in named)
 
 
 def typed_makers(_):
@@ -267,6 +330,10 @@ PLACES = [
     header_place("faults", r"enum \{ /\* what pathserve_check .*?\n"),
     header_place("replies", r"enum \{ /\* pathserve_reply\.kind .*?\n"),
     header_place("refusals", r"enum \{ /\* pathserve_reply\.why .*?\n"),
+    Place(HEADER, r"^typedef struct pathserve_post \{\n", r"\}", header_struct),
+    Place(HEADER, r"^#define PATHSERVE_EMPTY_POST ", r" fields is 0", empty_post),
+    Place(HEADER, r"^    PATHSERVE_SIZE_POST = 6, +/\* ", r" ", lambda _: post_size()),
+    Place(HEADER, r"^PATHSERVE_HAS_SIZE\(pathserve_post, ", r"\)", lambda _: post_size()),
     Place(HEADER, r"^    uint8_t kind; +/\* 1 to ", r" ", greatest("posts")),
     Place(HEADER, r"^    uint8_t goal; +/\* 1 to ", r" ", greatest("goals")),
     python_place("statuses", PYTHON_NATIVE, "Status"),
@@ -276,6 +343,7 @@ PLACES = [
     python_place("replies", PYTHON_POSTS, "Kind"),
     python_place("refusals", PYTHON_POSTS, "Refusal"),
     Place(PYTHON_NATIVE, r"^class PostStruct\(.*?_fields_ = \[\n", r"    \]", python_struct),
+    Place(PYTHON_POSTS, r"^class Post\(NamedTuple\):\n.*?\n\n", r"\n    def ", python_post),
     Place(RUST_SYS, r"^pub const ANSWERS: u32 = \d+;\n\n", r"\n/// A match: ", rust_numbers),
     Place(RUST_SYS, r"^pub struct Post \{\n", r"\}", rust_struct),
     Place(RUST_POSTS, r"^pub enum Refusal \{\n", r"\}", rust_refusals),
@@ -286,10 +354,12 @@ PLACES = [
     csharp_place("faults", "PostFault", none=True),
     csharp_place("replies", "ReplyKind"),
     csharp_place("refusals", "Refusal", none=True),
+    Place(CSHARP, r"public struct Post\n    \{\n", r"\n        ///", csharp_struct),
     *script_places("statuses", "Status"),
     *script_places("faults", "PostFault"),
     *script_places("posts", "PostKind"),
     *script_places("goals", "GoalKind"),
+    Place(SCRIPT, r"^const POST = struct\(\n", r"\);", script_struct),
     Place(SCRIPT, r'^const KINDS = \["", ', r"\]", script_names("replies", ", ")),
     Place(SCRIPT, r'^const WHYS = \["", ', r"\]", script_names("refusals", ", ")),
     Place(SCRIPT_TYPES, r"^export interface Post \{\n", r"\}", typed_post),

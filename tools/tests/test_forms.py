@@ -101,13 +101,17 @@ class Written(unittest.TestCase):
             for file in files:
                 os.makedirs(os.path.dirname(f"{top}/{file}"), exist_ok=True)
                 shutil.copy(f"{TOP}/{file}", f"{top}/{file}")
-            with mock.patch.multiple(forms, numbers=more.get, post_fields=lambda: [*fields, ("leap_far", "u64")]):
+            changed = [*fields, forms.Field("leap_far", "u64", "how far a frog leaps")]
+            with mock.patch.multiple(forms, numbers=more.get, post_fields=lambda: changed, post_size=lambda: "56"):
                 self.assertEqual([forms.main(["--write"]), forms.main(["--check"])], [0, 0])
                 for file in files:
                     self.assertRegex(specs.read(file), r"(?i)\bleap[_-]?frog\b|\bPATHSERVE_LEAP_FROG = 99 ", file)
-                for file in (forms.PYTHON_NATIVE, forms.RUST_SYS, forms.SCRIPT_TYPES):
-                    self.assertRegex(specs.read(file), r"\bleap_?[fF]ar\b", file)
-            with mock.patch.multiple(forms, numbers=numbers.get, post_fields=lambda: fields):
+                for file in set(files) - {forms.RUST_POSTS}:
+                    self.assertRegex(specs.read(file), r"(?i)\bleap_?far\b", file)
+                header = specs.read(forms.HEADER)
+                self.assertRegex(header, r"(?m)^    uint64_t leap_far; +/\* how far a frog leaps \*/$")
+                self.assertEqual(len(re.findall(r"PATHSERVE_SIZE_POST = 6, +/\* 56 |PATHSERVE_HAS_SIZE\(pathserve_post, 56\)|each of the 17 fields", header)), 3)
+            with mock.patch.multiple(forms, numbers=numbers.get, post_fields=lambda: fields, post_size=lambda: "48"):
                 with contextlib.redirect_stderr(io.StringIO()) as said:
                     self.assertEqual([forms.main(["--check"]), forms.main(["--write"])], [1, 0])
                 self.assertEqual(said.getvalue().count("\n"), len(files))
