@@ -247,13 +247,13 @@ def csharp_enum(of, none):
 
 def csharp_struct(_):
     """The fields, those of one type that stand together in one line. The kinds have the types of their enums."""
-    types = {"u8": "public byte", "u16": "public ushort", "u32": "public uint", "u64": "public ulong", "i32": "public int"}
-    others = {"kind": "public PostKind", "goal": "public GoalKind", "zero": "private ushort"}
-    fields = [it._replace(type=others.get(it.name, types[it.type])) for it in post_fields()]
+    types = {"u8": "byte", "u16": "ushort", "u32": "uint", "u64": "ulong", "i32": "int"}
+    kinds = {"kind": "PostKind", "goal": "GoalKind"}
+    fields = [it._replace(type=kinds.get(it.name, types[it.type])) for it in post_fields()]
     text = ""
-    for type_, its in of_one_type(fields):
-        names = [it.camel() if it.name == "zero" else it.camel()[0].upper() + it.camel()[1:] for it in its]
-        text += f"        {type_} {', '.join(names)};\n"
+    for (type_, is_zero), its in itertools.groupby(fields, lambda it: (it.type, it.name == "zero")):
+        names = [it.camel() if is_zero else it.camel()[0].upper() + it.camel()[1:] for it in its]
+        text += f"        {'private' if is_zero else 'public'} {type_} {', '.join(names)};\n"
     return text
 
 
