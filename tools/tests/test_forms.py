@@ -94,7 +94,7 @@ class Written(unittest.TestCase):
 
     def test_what_is_new_is_written_to_each_place(self):
         """A number more of each kind and a field more come into each file, and go again where the crates have them no more."""
-        numbers, fields = {of: forms.numbers(of) for of in forms.NUMBERS}, forms.post_fields()
+        numbers, fields, size = {of: forms.numbers(of) for of in forms.NUMBERS}, forms.post_fields(), forms.post_size()
         more = {of: [*its, forms.Number("LEAP_FROG", 99, its[0].type, "a leap")] for of, its in numbers.items()}
         files = list(dict.fromkeys(it.file for it in forms.PLACES))
         with tempfile.TemporaryDirectory() as top, mock.patch.object(specs, "TOP", top):
@@ -102,7 +102,7 @@ class Written(unittest.TestCase):
                 os.makedirs(os.path.dirname(f"{top}/{file}"), exist_ok=True)
                 shutil.copy(f"{TOP}/{file}", f"{top}/{file}")
             changed = [*fields, forms.Field("leap_far", "u64", "how far a frog leaps")]
-            with mock.patch.multiple(forms, numbers=more.get, post_fields=lambda: changed, post_size=lambda: "56"):
+            with mock.patch.multiple(forms, numbers=more.get, post_fields=lambda: changed, post_size=lambda: "99"):
                 self.assertEqual([forms.main(["--write"]), forms.main(["--check"])], [0, 0])
                 for file in files:
                     self.assertRegex(specs.read(file), r"(?i)\bleap[_-]?frog\b|\bPATHSERVE_LEAP_FROG = 99 ", file)
@@ -110,8 +110,9 @@ class Written(unittest.TestCase):
                     self.assertRegex(specs.read(file), r"(?i)\bleap_?far\b", file)
                 header = specs.read(forms.HEADER)
                 self.assertRegex(header, r"(?m)^    uint64_t leap_far; +/\* how far a frog leaps \*/$")
-                self.assertEqual(len(re.findall(r"PATHSERVE_SIZE_POST = 6, +/\* 56 |PATHSERVE_HAS_SIZE\(pathserve_post, 56\)|each of the 17 fields", header)), 3)
-            with mock.patch.multiple(forms, numbers=numbers.get, post_fields=lambda: fields, post_size=lambda: "48"):
+                self.assertEqual(len(re.findall(r"PATHSERVE_SIZE_POST = 6, +/\* 99 |PATHSERVE_HAS_SIZE\(pathserve_post, 99\)", header)), 2)
+                self.assertIn(f"/* each of the {len(changed)} fields is 0 */", header)
+            with mock.patch.multiple(forms, numbers=numbers.get, post_fields=lambda: fields, post_size=lambda: size):
                 with contextlib.redirect_stderr(io.StringIO()) as said:
                     self.assertEqual([forms.main(["--check"]), forms.main(["--write"])], [1, 0])
                 self.assertEqual(said.getvalue().count("\n"), len(files))
