@@ -20,7 +20,9 @@ import sys
 
 SIDE = 65536  # the raw side of a navcell
 CHUNK = 96
+NEWEST = 3  # version of the script
 EDITS = ("add", "remove", "move")
+GOALS = {"point": 2, "circle": 3, "not-circle": 3, "square": 6, "not-square": 6}  # how many decimals each has
 NOTES = {"profile": "opened", "flow": "flow", "smooth": "smooth"}  # how the line begins that a word writes after each path
 WORDS = ("replay", *NOTES)
 # in the order in which the chosen walk prefers them
@@ -113,7 +115,7 @@ def value_of(line):
 class Map:
     def __init__(self, value):
         needs(has_keys(value, "version", "size", "callers", "classes"))
-        self.version = whole(value["version"], 3, 1)
+        self.version = whole(value["version"], NEWEST, 1)
         size = value["size"]
         needs(isinstance(size, list) and len(size) == 2)
         self.w, self.h = (whole(it, 2048, 1) for it in size)
@@ -140,11 +142,10 @@ class Map:
         needs(isinstance(value, dict) and len(value) == 1)
         (kind, numbers), = value.items()
         if kind == "obstruction":
-            needs(self.version == 3 and isinstance(numbers, list) and len(numbers) == 2)
+            needs(self.version >= 3 and isinstance(numbers, list) and len(numbers) == 2)
             return kind, [whole(numbers[0], 2**32 - 1), decimal(numbers[1])]
-        counts = {"point": 2, "circle": 3, "not-circle": 3, "square": 6, "not-square": 6}
-        needs(kind in counts)
-        return kind, decimals(numbers, counts[kind])
+        needs(kind in GOALS)
+        return kind, decimals(numbers, GOALS[kind])
 
     def post(self, value):
         """The caller, the kind and the numbers of a post line."""
@@ -161,7 +162,7 @@ class Map:
                 return caller, "add", whole(value["add"], 2**32 - 1), numbers, mask
         if keys == {"remove"}:
             return caller, "remove", whole(value["remove"], 2**32 - 1)
-        if keys == {"move", "to"} and self.version == 3:
+        if keys == {"move", "to"} and self.version >= 3:
             return caller, "move", whole(value["move"], 2**32 - 1), decimals(value["to"], 2)
         if keys == {"path", "from", "goal"}:
             return caller, "path", class_name(value["path"]), decimals(value["from"], 2), self.goal(value["goal"])
@@ -659,8 +660,7 @@ class Maker:
         name = rng.choice(names) if rng.random() < 0.97 else "nobody"
         if kind == "region":
             return {**caller, "region": name, "at": self.point()}
-        goals = ["point", "circle", "not-circle", "square", "not-square", "obstruction"][: 6 if version == 3 else 5]
-        goal = rng.choice(goals)
+        goal = rng.choice([*GOALS, "obstruction"] if version >= 3 else [*GOALS])
         if goal == "point":
             numbers = self.point()
         elif goal == "obstruction":
@@ -677,7 +677,7 @@ class Maker:
         shapes = [(small, rng.randint(1, 16)), (small, rng.randint(1, 16)), (long, flat), (flat, long)]
         self.w, self.h = rng.choice(shapes)
         self.added = []
-        version, callers = rng.randint(1, 3), rng.randint(1, 3)
+        version, callers = rng.randint(1, NEWEST), rng.randint(1, 3)
         names = ["infantry", "siege", "ship"][: rng.randint(1, 3)]
         classes = [{"name": name, "clearance": rng.choice(["0", "0.25", "0.5", "0.75", "1.2", "2"])} for name in names]
         lines = [{"version": version, "size": [self.w, self.h], "callers": callers, "classes": classes}]
