@@ -19,6 +19,7 @@ from marks import Place
 from specs import read
 
 TABLE = "crates/script_text/specs/Table.antt"
+GOALS = "crates/script_text/src/goals.rt"
 POST = "crates/flat_posts/src/posted.rt"
 NUMBERS = {
     "posts": "crates/flat_posts/src/post_kinds.rt",
@@ -69,6 +70,16 @@ def goals():
     """What stands under the key of each goal, by its name and its key."""
     under = said("goal_wanted", "goal")
     return {name: (key, under[name]) for name, key in quoted(said("goal_key_text", "goal")).items()}
+
+
+def newest():
+    """The newest version of the script."""
+    return int(forms()["Map"]["version"].split()[-1])
+
+
+def goals_in_words():
+    """The keys of goals as a cause of a bad line has them."""
+    return re.search(r"fn goal_keys.*?\"(.*?)\"", read(GOALS), re.DOTALL)[1]
 
 
 class Number(NamedTuple):

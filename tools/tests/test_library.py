@@ -18,6 +18,7 @@ import tempfile
 import unittest
 
 from places import TOP, read
+import forms
 import links
 import mapscript
 import platforms
@@ -476,16 +477,12 @@ class Posted:
 
     def goal(self, goal):
         (kind, value), = goal.items()
-        if kind == "obstruction":
-            return self.api.Goal.obstruction(value[0], check.decimal(value[1]))
-        numbers = check.decimals(value, len(value))
-        if kind == "point":
-            return self.api.Goal.point(*numbers)
-        make = self.api.Goal.circle if kind.endswith("circle") else self.api.Goal.square
-        return make(*numbers, outside=kind.startswith("not-"))
+        numbers = [it if isinstance(it, int) else check.decimal(it) for it in value]
+        outside = {"outside": True} if kind.startswith("not-") else {}
+        return getattr(self.api.Goal, kind.removeprefix("not-"))(*numbers, **outside)
 
 
-KINDS = {1: "point", 2: "circle", 3: "not-circle", 4: "square", 5: "not-square"}
+KINDS = {it.value: it.with_dashes() for it in forms.numbers("goals")}
 
 
 class Seen(check.Cells):

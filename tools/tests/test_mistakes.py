@@ -6,6 +6,8 @@ import unittest
 
 from places import PROGRAM, needs_program, read
 
+import forms  # noqa: E402
+
 FIRST = '{"version":3,"size":[12,8],"callers":2,"classes":[{"name":"infantry","clearance":"0.75"},{"name":"siege","clearance":"2.5"}]}'
 ADD = '{"caller":0,"add":1,"unit":["6","4","1"],"mask":3}'
 PATH = '{"caller":1,"path":"infantry","from":["1.5","1.5"],"goal":{"point":["9.5","1.5"]}}'
@@ -18,7 +20,8 @@ DECIMALS = "must have an array of {} decimals in quotes with at most 16 places, 
 TWO, THREE, SIX = (DECIMALS.format(it) for it in ("two", "three", "six"))
 NUMBER = "must have a whole number from 0 to 4294967295"
 BASE = 'the key "base" must have an array of arrays [i0,j0,i1,j1,mask] with i0 <= i1, j0 <= j1 and mask <= 65535, on a map of 12 by 8; array 1 is wrong'
-GOALS = 'the key "goal" must have an object with exactly one key: point, circle, not-circle, square, not-square or, from version 3 on, obstruction'
+GOALS = f'the key "goal" must have an object with exactly one key: {forms.goals_in_words()}'
+VERSIONS = f'the key "version" must have a whole number from 1 to {forms.newest()}'
 BROKEN = "the line must be one JSON value, with brackets that match, keys in quotes with a colon, and numbers as 0, -1.5 or 2e3"
 WORDS = "only true, false, null and numbers stand without quotes"
 BEHIND = "a line has one value, and this stands behind it"
@@ -72,7 +75,7 @@ MISTAKES = [
     ("no map line", lines(ADD, END), 1, PLACES),
     ("the map line without version", lines(FIRST.replace('"version":3,',''), END), 1, 'the line must have the key "version" too'),
     ("the map line without classes", lines('{"version":3,"size":[12,8],"callers":2}', END), 1, 'the line must have the key "classes" too'),
-    ("an unknown version", lines(FIRST.replace('"version":3','"version":4'), END), 1, 'the key "version" must have a whole number from 1 to 3'),
+    ("an unknown version", lines(FIRST.replace('"version":3', f'"version":{forms.newest() + 1}'), END), 1, VERSIONS),
     ("a map too large", lines(FIRST.replace('[12,8]','[4096,4096]'), END), 1, 'the key "size" must have an array of two whole numbers from 1 to 2048'),
     ("a clearance that is no string", lines(FIRST.replace('"0.75"','0.75'), END), 1, CLASSES),
     ("two classes of one name", lines(FIRST.replace('siege','infantry'), END), 1, CLASSES),
@@ -94,7 +97,7 @@ MISTAKES = [
     ("a negative clearance", lines(FIRST.replace("2.5", "-1"), END), 1, CLASSES),
     ("a size as a text", lines(FIRST.replace("[12,8]", '"12x8"'), END), 1, 'the key "size" must have an array of two whole numbers from 1 to 2048'),
     ("a map without callers", lines(FIRST.replace('"callers":2', '"callers":0'), END), 1, 'the key "callers" must have a whole number from 1 to 64'),
-    ("the version as a text", lines(FIRST.replace('"version":3', '"version":"3"'), END), 1, 'the key "version" must have a whole number from 1 to 3'),
+    ("the version as a text", lines(FIRST.replace('"version":3', '"version":"3"'), END), 1, VERSIONS),
     ("a class by its number", lines(FIRST, PATH.replace('"infantry"', "0"), END), 2, 'the key "path" must have a string of 1 to 64 ASCII letters, digits, - or _'),
     ("a decimal comma", lines(FIRST, PATH.replace('"1.5","1.5"', '"1,5","1,5"'), END), 2, f'the key "from" {TWO}'),
     ("a point with a height", lines(FIRST, PATH.replace('"1.5","1.5"', '"1.5","0","1.5"'), END), 2, f'the key "from" {TWO}'),

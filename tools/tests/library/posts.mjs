@@ -17,13 +17,10 @@ function raw(text) {
   return Number(sign ? -number : number);
 }
 
-function goalOf({ point, circle, square, obstruction, ...outside }) {
-  if (point) return its.Goal.point(...point.map(raw));
-  if (circle) return its.Goal.circle(...circle.map(raw));
-  if (square) return its.Goal.square(...square.map(raw));
-  if (obstruction) return its.Goal.obstruction(obstruction[0], raw(obstruction[1]));
-  const [[kind, numbers]] = Object.entries(outside);
-  return its.Goal[kind.slice(4)](...numbers.map(raw), true);
+function goalOf(goal) {
+  const [[kind, values]] = Object.entries(goal), outside = kind.startsWith("not-");
+  const numbers = values.map((it) => (typeof it === "string" ? raw(it) : it));
+  return outside ? its.Goal[kind.slice(4)](...numbers, true) : its.Goal[kind](...numbers);
 }
 
 function postOf(line, version, names) {
