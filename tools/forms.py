@@ -60,10 +60,29 @@ def forms():
     return {form: {texts[key]: wanted(under[key]) for key in names} for form, names in keys.items()}
 
 
+def versions_of(of, by):
+    """The version from which on each condition holds by which a clause of the table goes."""
+    names = re.search(rf"^{by}((?: \w+)*) form\.", read(TABLE), re.MULTILINE)[1].split()
+    call = re.search(rf"^{of} version f = {by} (.*) f$", read(TABLE), re.MULTILINE)[1]
+    return dict(zip(names, map(int, re.findall(r"\(nat_le (\d) version\)", call)), strict=True))
+
+
 def first_versions():
     """The first version of the forms that not each version has."""
-    version = re.search(r"^stands_in version f = stands_by \(nat_le (\d) version\) f$", read(TABLE), re.MULTILINE)[1]
-    return {form: int(version) for form in said("stands_by", "form")}
+    versions = versions_of("stands_in", "stands_by")
+    return {form: versions[clause] for form, clause in said("stands_by", "form").items()}
+
+
+def key_versions():
+    """The first version of the keys that not each version has."""
+    texts, versions = key_texts(), versions_of("keys_of", "keys_by")
+    found = re.findall(r"\(if (\w+) then key\.(\w+) ", " ".join(said("keys_by", "form").values()))
+    return {texts[key]: versions[condition] for condition, key in found}
+
+
+def goal_versions():
+    """The first version of the goals that not each version has."""
+    return {key: int(version) for version, key in re.findall(r"from version (\d) on, ([a-z-]+)", goals_in_words())}
 
 
 def goals():
@@ -140,13 +159,16 @@ def of_one_type(fields):
 
 
 def lines():
-    first = first_versions()
+    first = first_versions() | key_versions() | goal_versions()
+
+    def since(name):
+        return f", from version {first[name]} on" if name in first else ""
+
     for form, fields in forms().items():
-        since = f" (from version {first[form]})" if form in first else ""
-        yield f"{form}{since}"
-        yield from (f"    {key:<10} {wanted}" for key, wanted in fields.items())
+        yield f"{form}{since(form)}"
+        yield from (f"    {key:<10} {wanted}{since(key)}" for key, wanted in fields.items())
     yield "goals"
-    yield from (f"    {key:<12} {wanted}" for key, wanted in goals().values())
+    yield from (f"    {key:<12} {wanted}{since(key)}" for key, wanted in goals().values())
     for of in NUMBERS:
         yield f"numbers of {of}"
         yield from (f"    {value:>2} {name}" for name, value in values(of).items())

@@ -7,6 +7,8 @@ import unittest
 
 from places import PROGRAM, needs_program, read
 
+import forms  # noqa: E402
+
 PAGE = read("docs/FORMAT.md").decode().partition("\n## The script\n")[2].partition("\n### Why a line is bad\n")[0]
 FORMS, GOALS = (re.findall(r"(?m)^\{.*\}$", it) for it in re.findall(r"(?s)```\n(.*?)```", PAGE))
 # the page's table: which keys a line of each form has, besides those of its place
@@ -17,6 +19,12 @@ def form_of(line):
     """The name of a form by the key that only it has."""
     names = {"version": "map"} | {it: it for it in ("base", "add", "remove", "move", "path", "region", "end")}
     return next(names[key] for key in line if key in names)
+
+
+def first_version(line):
+    """The first version that has a line."""
+    first = {form.lower(): version for form, version in forms.first_versions().items()} | forms.key_versions() | forms.goal_versions()
+    return max(first.get(it, 1) for it in (*line, *line.get("goal", ())))
 
 
 def run(lines):
@@ -96,13 +104,12 @@ class Format(unittest.TestCase):
     @needs_program
     def test_a_later_form_is_bad_in_an_earlier_version(self):
         lines = whole()
-        first = json.loads(lines[0])
-        for version in (1, 2):
-            later = ("move",) if version == 2 else ("move", "mask")
+        map_line = json.loads(lines[0])
+        for version in range(1, forms.newest()):
             for text in lines[1:-1]:
-                is_later = any(it in json.loads(text) for it in later) or "obstruction" in json.loads(text).get("goal", {})
+                is_later = first_version(json.loads(text)) > version
                 base = [] if "base" in json.loads(text) else [text]
-                script = [json.dumps(first | {"version": version}), *base, FORMS[-1]]
+                script = [json.dumps(map_line | {"version": version}), *base, FORMS[-1]]
                 self.assertEqual(run(script)[0], 3 if is_later else 0, (version, text))
 
 

@@ -161,11 +161,17 @@ class Page(unittest.TestCase):
             row = re.search(rf"^\| {ROWS[form]} line.*$", PAGE, re.MULTILINE)[0]
             for key in fields:
                 self.assertIn(f"`{key}`", row)
-            self.assertEqual("version 3 only" in row, form in forms.first_versions())
+            found = re.search(r"line, from version (\d) on \|", row)
+            self.assertEqual(found and int(found[1]), forms.first_versions().get(form))
+            for key in fields:
+                if key in forms.key_versions():
+                    self.assertIn(f"from version {forms.key_versions()[key]} on, and only there, `{key}`", row)
 
     def test_it_shows_each_goal_with_its_numbers(self):
         shown = {key: value for it in page_lines() if "goal" in it for key, value in it["goal"].items()}
         self.assertEqual(set(shown), {key for key, _ in forms.goals().values()})
+        for key, version in forms.goal_versions().items():
+            self.assertIn(f"`{key}`, from version {version} on, ", PAGE)
         for key, wanted in forms.goals().values():
             self.assertEqual(len(shown[key]), count_of(wanted), key)
 
