@@ -102,12 +102,12 @@ def goals_in_words():
 
 
 class Number(NamedTuple):
-    """A number of the C structs: its name, its value, its type, and what it stands for."""
+    """A number of the C structs: its name, its value, its type, and what it stands for where the crates say it."""
 
     name: str
     value: int
     type: str
-    about: str
+    about: str = ""
 
     def in_words(self):
         """The name as `BadShape`."""
@@ -118,10 +118,15 @@ class Number(NamedTuple):
         return self.name.lower().replace("_", "-")
 
 
+def as_remark(sentence):
+    """A sentence as it stands behind a name in the header."""
+    return sentence[:1].lower() + sentence[1:]
+
+
 def numbers(of):
     """The numbers of this kind, in the order of the crates."""
-    found = re.findall(r"^/// (.*)\.\npub const ([A-Z_]+): (u\d+) = (\d+);$", read(NUMBERS[of]), re.MULTILINE)
-    return [Number(name, int(value), type_, about[0].lower() + about[1:]) for about, name, type_, value in found]
+    found = re.findall(r"(?:^/// (.*)\.\n)?^pub const (\w+): (u\d+) = (\d+);$", read(NUMBERS[of]), re.MULTILINE)
+    return [Number(name, int(value), type_, as_remark(about)) for about, name, type_, value in found]
 
 
 def values(of):
@@ -145,7 +150,7 @@ def post_fields():
     """The fields of a post as a struct."""
     body = re.search(r"^pub struct FlatPost \{\n(.*?)^\}", read(POST), re.MULTILINE | re.DOTALL)[1]
     found = re.findall(r"(?:^    /// (.*)\.\n)?^    pub (\w+): (\w+),$", body, re.MULTILINE)
-    return [Field(name, type_, about[:1].lower() + about[1:]) for about, name, type_ in found]
+    return [Field(name, type_, as_remark(about)) for about, name, type_ in found]
 
 
 def post_size():
@@ -197,15 +202,20 @@ def listed(items, between, indent):
     return "\n".join(rows)
 
 
+def with_remarks(rows):
+    """Lines of the header, each with its remark in one column where it has one."""
+    width = max(len(it) for it, _ in rows)
+    return "".join(f"    {line:<{width}} /* {remark} */\n" if remark else f"    {line}\n" for line, remark in rows)
+
+
 def header_enum(of):
     """The names of an enum. A comment that stands there stays; a new name has that of the crates."""
 
     def made(old):
         comments = dict(re.findall(r"PATHSERVE_(\w+) = \d+,? +/\* (.*) \*/", old))
         found = numbers(of)
-        names = [f"PATHSERVE_{it.name} = {it.value}{',' * (it is not found[-1])}" for it in found]
-        width = max(map(len, names))
-        return "".join(f"    {name:<{width}} /* {comments.get(it.name, it.about)} */\n" for name, it in zip(names, found))
+        commas = [","] * (len(found) - 1) + [""]
+        return with_remarks([(f"PATHSERVE_{it.name} = {it.value}{comma}", comments.get(it.name, it.about)) for it, comma in zip(found, commas)])
 
     return made
 
@@ -223,8 +233,7 @@ def header_struct(old):
         first, *others = fields
         of_c = "pathserve_fixed" if first.type == "i32" else f"uint{first.type[1:]}_t"
         found.append((f"{of_c} {', '.join(it.name for it in (first, *others))};", row[1]))
-    width = max(len(it) for it, _ in found)
-    return "".join(f"    {names:<{width}} /* {about} */\n" if about else f"    {names}\n" for names, about in found)
+    return with_remarks(found)
 
 
 def empty_post(_):
