@@ -22,7 +22,7 @@ fn main() -> Result<(), Error> {
     // its paths, one by one and all at once
     let goal = Goal::Point { x: fixed(10.5), z: fixed(3.5) };
     let units = [(1, 1), (4, 4), (1, 7)];
-    let order = |(i, j)| Post::Path { caller: 0, class: 0, x: middle(i), z: middle(j), goal };
+    let order = |(i, j)| goal.path(0, 0, middle(i), middle(j));
     let asked = [order(units[0]), order(units[1]), order(units[2]), Post::Region { caller: 0, class: 0, x, z }];
     let mut finder = Finder::open()?;
     let found = finder.find_all(&mut view, &asked)?;

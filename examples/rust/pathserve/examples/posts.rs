@@ -6,7 +6,7 @@ fn main() -> Result<(), Error> {
     let classes = [Class::new("infantry", fixed(0.5))];
     let mut game = PostedMatch::open(12, 8, 1, &classes, &[])?;
     let goal = Goal::Point { x: fixed(10.5), z: fixed(1.5) };
-    let ask = Post::Path { caller: 0, class: 0, x: fixed(1.5), z: fixed(1.5), goal };
+    let ask = goal.path(0, 0, fixed(1.5), fixed(1.5));
     let add = Post::AddUnit { caller: 0, id: 1, mask: 1, x: fixed(6.0), z: fixed(1.5), half: fixed(1.0) };
     game.post(&[add, ask])?;
     let turn = game.end_turn()?;

@@ -1,5 +1,5 @@
 //! Plays a script by text, and asks what stands for a path from another thread: cargo run --example views < skirmish.script
-use pathserve::{fixed, Error, Goal, Outcome, Post, Report, TextMatch};
+use pathserve::{fixed, Error, Goal, Outcome, Report, TextMatch};
 use std::io::{self, Read};
 use std::thread;
 
@@ -10,7 +10,7 @@ fn main() -> Result<(), Error> {
     game.feed(&script)?;
     let mut view = game.view()?;
     let goal = Goal::Point { x: fixed(10.5), z: fixed(1.5) };
-    let ask = Post::Path { caller: 0, class: 0, x: fixed(1.5), z: fixed(1.5), goal };
+    let ask = goal.path(0, 0, fixed(1.5), fixed(1.5));
     let mut other = view.again()?;
     let found = thread::spawn(move || other.find(&ask)).join().expect("a thread")?;
     assert_eq!(found, view.find(&ask)?);

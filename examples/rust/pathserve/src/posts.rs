@@ -83,6 +83,11 @@ pub(crate) fn add_of(post: &sys::Post) -> Post {
 }
 
 impl Goal {
+    /// Asks for a path of a class from the point (x, z) to this goal.
+    pub fn path(self, caller: u8, class: u8, x: i32, z: i32) -> Post {
+        Post::Path { caller, class, x, z, goal: self }
+    }
+
     fn raw(self) -> sys::Post {
         let none = sys::Post::default();
         match self {
