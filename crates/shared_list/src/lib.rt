@@ -6,10 +6,12 @@
 //!    after    block  new  block  rest
 //! ```
 //!
-//! So a copy costs one pointer for each block of 32 items, and an item replaced costs the pointers of one block.
+//! So a copy costs one pointer, the first item replaced in it one pointer for each block of 32 items, and each item
+//! replaced the pointers of one block.
 //! Contracts see the list. What the items are is for other crates to say.
 #![tactic(auto)]
 
+mod block_lists;
 mod blocks;
 mod lists;
 

@@ -3,7 +3,7 @@ ghost use Rattle.std.specs.Prelude.{◌≡◌, ◌++◌, ◌∷◌, ◌<◌, [],
 ghost use Rattle.std.specs.Arc.{arc_value};
 ghost use Rattle.shared_list.specs.Changing.{IsChangedBy};
 
-use crate::blocks::{BLOCK, Block, MOST_BLOCKS, replace};
+use crate::block_lists::BlockList;
 use nav_types::NoMemory;
 use std::alloc::Global;
 use std::marker::Model;
@@ -11,24 +11,20 @@ use std::sync::Arc;
 
 /// A list of items that other lists may share. Contracts see the list.
 ///
-/// The items lie in blocks of 32, and fewer behind them. Two lists that were one hold the same blocks, but for those
-/// in which an item was replaced since.
+/// Two lists that were one hold the same items until one of the two changes. Then that one gets a list of the blocks of
+/// its own, and shares with the other the blocks in which no item was replaced since.
 #[derive(Drop)]
 pub struct SharedList<T> {
-    blocks: Vec<Arc<Block<T>, Global>>,
-    rest: Block<T>,
+    items: Arc<BlockList<T>, Global>,
 }
 
 impl<T> Model for SharedList<T> {
-    ghost use Rattle.std.specs.Prelude.{List, map};
+    ghost use Rattle.std.specs.Prelude.{List};
     ghost use Rattle.std.specs.Arc.{arc_value};
-    ghost use Rattle.shared_list.specs.inner.Blocks.{AreBlocks, in_blocks};
 
     ghost Value = { List T };
 
-    ghost view = { λ s. in_blocks (map arc_value s.blocks.items) s.rest };
-
-    ghost invariant = { λ s. AreBlocks (map arc_value s.blocks.items) s.rest };
+    ghost view = { λ s. arc_value s.items };
 }
 
 impl<T> SharedList<T> {
@@ -38,9 +34,9 @@ impl<T> SharedList<T> {
         T: Drop,
         ensures { IfOk result (λ list. list ≡ []) }
     {
+        let items = BlockList::with_capacity(alloc, count)?;
         Ok(SharedList {
-            blocks: Vec::with_capacity(alloc, count / BLOCK)?,
-            rest: Block::new(alloc),
+            items: Arc::new(alloc, items)?,
         })
     }
 
@@ -61,31 +57,24 @@ impl<T> SharedList<T> {
         ensures ok { OnOk result (self.new ≡ self.old ++ arc_value item ∷ []) }
         ensures err { OnErr result (self.new ≡ self.old) }
     {
-        if self.rest.len() + 1 < BLOCK {
-            return self.rest.push(item);
+        if let Some(items) = Arc::get_mut(&mut self.items) {
+            return items.push_shared(alloc, item);
         }
-        if self.blocks.len() >= MOST_BLOCKS {
-            return Err(NoMemory);
-        }
-        let block = self.rest.with(alloc, item)?;
-        self.blocks.push(block)?;
-        self.rest = Block::new(alloc);
+        let mut items = self.items.share(alloc)?;
+        items.push_shared(alloc, item)?;
+        self.items = Arc::new(alloc, items)?;
         Ok(())
     }
 
-    /// The same list, whose blocks both hold from then on.
+    /// The same list, whose items both hold from then on.
     pub fn share(&self, alloc: Global) -> Result<SharedList<T>, NoMemory>
     where
         T: Drop,
         ensures { IfOk result (λ list. list ≡ self.now) }
     {
-        let mut blocks = Vec::with_capacity(alloc, self.blocks.len())?;
-        for block in &self.blocks {
-            blocks.push(Arc::try_clone(block)?)?;
-        }
+        let _ = alloc;
         Ok(SharedList {
-            blocks,
-            rest: self.rest.share(alloc)?,
+            items: Arc::try_clone(&self.items)?,
         })
     }
 
@@ -114,14 +103,12 @@ impl<T> SharedList<T> {
         ensures ok { OnOk result (self.new ≡ slice_set self.old at (arc_value item)) }
         ensures err { OnErr result (self.new ≡ self.old) }
     {
-        let place = at / BLOCK;
-        if place < self.blocks.len() {
-            let mut block = self.blocks[place].share(alloc)?;
-            block.set(at % BLOCK, item);
-            replace(&mut self.blocks, place, Arc::new(alloc, block)?);
-        } else {
-            self.rest.set(at - self.blocks.len() * BLOCK, item);
+        if let Some(items) = Arc::get_mut(&mut self.items) {
+            return items.set_shared(alloc, at, item);
         }
+        let mut items = self.items.share(alloc)?;
+        items.set_shared(alloc, at, item)?;
+        self.items = Arc::new(alloc, items)?;
         Ok(())
     }
 
@@ -133,32 +120,24 @@ impl<T> SharedList<T> {
         ensures changed { IfSome result (λ given. IsChangedBy F.FnOnce change at given self.old self.new) }
         ensures kept { IfNone result (self.new ≡ self.old) }
     {
-        let place = at / BLOCK;
-        if place < self.blocks.len() {
-            let Some(block) = Arc::get_mut(&mut self.blocks[place]) else {
-                return None;
-            };
-            return block.change(at % BLOCK, change);
-        }
-        self.rest.change(at - self.blocks.len() * BLOCK, change)
+        let Some(items) = Arc::get_mut(&mut self.items) else {
+            return None;
+        };
+        items.change(at, change)
     }
 
     /// Whether another list holds the item at a place, counted from 0, too.
     pub fn is_shared(&self, at: usize) -> bool
         requires { at < length self.now }
     {
-        let block = match self.blocks.get(at / BLOCK) {
-            Some(block) => Arc::strong_count(block),
-            None => 1,
-        };
-        block > 1 || Arc::strong_count(self.item(at)) > 1
+        Arc::strong_count(&self.items) > 1 || self.items.is_shared(at)
     }
 
     /// The number of items.
     pub fn len(&self) -> usize
         ensures { result ≡ length self.now }
     {
-        self.blocks.len() * BLOCK + self.rest.len()
+        self.items.len()
     }
 
     /// The item at a place, counted from 0.
@@ -166,7 +145,7 @@ impl<T> SharedList<T> {
         requires { at < length self.now }
         ensures { slice_get self.now at ≡ Some result.now }
     {
-        self.item(at)
+        self.items.item(at)
     }
 
     /// The item at a place, counted from 0, which the caller holds too from then on.
@@ -174,19 +153,6 @@ impl<T> SharedList<T> {
         requires { at < length self.now }
         ensures { IfOk result (λ item. slice_get self.now at ≡ Some (arc_value item)) }
     {
-        Ok(Arc::try_clone(self.item(at))?)
-    }
-
-    /// The item at a place, counted from 0.
-    fn item(&self, at: usize) -> &Arc<T, Global>
-        requires { at < length self.now }
-        ensures { slice_get self.now at ≡ Some (arc_value result.now) }
-    {
-        let place = at / BLOCK;
-        if place < self.blocks.len() {
-            self.blocks[place].item(at % BLOCK)
-        } else {
-            self.rest.item(at - self.blocks.len() * BLOCK)
-        }
+        Ok(Arc::try_clone(self.items.item(at))?)
     }
 }

@@ -5,7 +5,7 @@ use Rattle.std.proofs.lemmas.List.{length-map}
 use Rattle.shared_list.specs.Changing.{IsChangedBy}
 use Rattle.shared_list.specs.inner.Blocks.{in_blocks}
 use Rattle.shared_list.proofs.BlockLemmas.{blocks_length, block_long, changed_long, changed_in_block, changed_behind, long_whole, same_block, none_then}
-use Rattle.shared_list.proofs.lists.SharedList.change.Goals as goal
+use Rattle.shared_list.proofs.block_lists.BlockList.change.Goals as goal
 
 pub change-requires-clause-place : goal.change-requires-clause-place
 change-requires-clause-place g c =

@@ -4,7 +4,7 @@ use Rattle.std.proofs.lemmas.List.{length-map}
 use Rattle.shared_list.specs.inner.Blocks.{AreBlocks, in_blocks}
 use Rattle.shared_list.proofs.BlockLemmas.{blocks_length, block_long, block_made, held_set, block_set, set_whole}
 use Rattle.shared_list.proofs.BlockLemmas.{rest_set}
-use Rattle.shared_list.proofs.lists.SharedList.set_shared.Goals as goal
+use Rattle.shared_list.proofs.block_lists.BlockList.set_shared.Goals as goal
 
 pub set-requires : goal.set-requires
 set-requires g c =

@@ -2,7 +2,7 @@ use Rattle.std.proofs.Common.{length, map, ap, arith}
 use Rattle.std.specs.Arc.{arc_value}
 use Rattle.std.proofs.lemmas.List.{length-map}
 use Rattle.shared_list.proofs.BlockLemmas.{blocks_length}
-use Rattle.shared_list.proofs.lists.SharedList.len.Goals as goal
+use Rattle.shared_list.proofs.block_lists.BlockList.len.Goals as goal
 
 pub overflow_mul-result : goal.overflow_mul-result
 overflow_mul-result g c = let few = c.self.invariant.few in omega (

@@ -3,7 +3,7 @@ use Rattle.std.specs.Arc.{arc_value}
 use Rattle.std.proofs.lemmas.List.{length-map, map-append}
 use Rattle.shared_list.specs.inner.Blocks.{AreBlocks, in_blocks}
 use Rattle.shared_list.proofs.BlockLemmas.{block_more, more_whole}
-use Rattle.shared_list.proofs.lists.SharedList.push_shared.Goals as goal
+use Rattle.shared_list.proofs.block_lists.BlockList.push_shared.Goals as goal
 
 pub invariant_of-self-2 : goal.invariant_of-self-2
 invariant_of-self-2 g c =

@@ -5,7 +5,7 @@ use Rattle.std.specs.Arc.{arc_value}
 use Rattle.std.proofs.lemmas.List.{length-map}
 use Rattle.std.proofs.lemmas.Option.{slice_get-map, slice_get-get_or}
 use Rattle.shared_list.proofs.BlockLemmas.{blocks_length, block_item, block_long, rest_item}
-use Rattle.shared_list.proofs.lists.SharedList.item.Goals as goal
+use Rattle.shared_list.proofs.block_lists.BlockList.item.Goals as goal
 
 -- a block at a place of the list, and its items
 block_here : {A B : Type 0} (f : A → B) (xs : List A) (k : ℕ) (x : A) → k < length xs → x ≡ get_or xs k x

@@ -2,7 +2,7 @@ use Rattle.std.proofs.Common.{map, ap, ◌∙◌, arith}
 use Rattle.std.specs.Arc.{arc_value}
 use Rattle.std.proofs.lemmas.List.{take_all}
 use Rattle.shared_list.specs.inner.Blocks.{in_blocks}
-use Rattle.shared_list.proofs.lists.SharedList.share.Goals as goal
+use Rattle.shared_list.proofs.block_lists.BlockList.share.Goals as goal
 
 pub returns : goal.returns
 returns g c =
