@@ -43,21 +43,29 @@ pub past_rows : (table : RowTable) (i j : ℕ) → table.size.h ≤ j → free_c
 past_rows table i j past =
     middle_false (ltb i table.size.w) (ltb j table.size.h) (free_at table.rows j i) (le-ltb j table.size.h past)
 
--- one number more is read
-pub numbers_more : (bit : ℕ → ℕ → ℕ) (numbers : List ℕ) (i v : ℕ) → i < length numbers
-    → ((j k : ℕ) → j < i → k < 16 → bit_at (get_or numbers j 0) k ≡ bit j k)
+-- one number more is read into those from a place on
+pub numbers_more : (bit : ℕ → ℕ → ℕ) (numbers : List ℕ) (from i v : ℕ) → from + i < length numbers
+    → ((j k : ℕ) → j < i → k < 16 → bit_at (get_or numbers (from + j) 0) k ≡ bit j k)
     → ((k : ℕ) → k < 16 → bit_at v k ≡ bit i k)
-    → (j k : ℕ) → j < i + 1 → k < 16 → bit_at (get_or (set numbers i v) j 0) k ≡ bit j k
-numbers_more bit numbers i v within old new j k below small = ⊎_elim
+    → (j k : ℕ) → j < i + 1 → k < 16 → bit_at (get_or (set numbers (from + i) v) (from + j) 0) k ≡ bit j k
+numbers_more bit numbers from i v within old new j k below small = ⊎_elim
     (λ (same : j ≡ i).
-    ap (λ p. bit_at (get_or (set numbers i v) p 0) k) same
-    ∙ ap (λ n. bit_at n k) (get_or-set_same numbers i v 0 within)
+    ap (λ p. bit_at (get_or (set numbers (from + i) v) (from + p) 0) k) same
+    ∙ ap (λ n. bit_at n k) (get_or-set_same numbers (from + i) v 0 within)
     ∙ new k small
     ∙ ap (λ p. bit p k) (sym same))
     (λ (other : j ≢ i).
-    ap (λ n. bit_at n k) (get_or-set_other numbers i j v 0 other)
+    ap (λ n. bit_at n k) (get_or-set_other numbers (from + i) (from + j) v 0 (λ (is : from + j ≡ from + i). other (omega (arith, is))))
     ∙ old j k (omega arith) small)
     (cases_eq j i)
+
+-- and the others stay
+pub numbers_else : (numbers first : List ℕ) (from count i v j : ℕ) → i < count
+    → ((j : ℕ) → (from ≤ j → j < from + count → ⊥) → get_or numbers j 0 ≡ get_or first j 0)
+    → (from ≤ j → j < from + count → ⊥) → get_or (set numbers (from + i) v) j 0 ≡ get_or first j 0
+numbers_else numbers first from count i v j below old out =
+    get_or-set_other numbers (from + i) j v 0 (λ (is : j ≡ from + i). out (omega (arith, is)) (omega (arith, is, below)))
+    ∙ old j out
 
 -- the band with the words in the place of so many
 pub put_is : (band out : List ℕ) (start count : ℕ) → length out ≡ count

@@ -66,6 +66,7 @@ impl Lines {
     }
 
     /// Appends band `b` of other lines, which both hold from then on.
+    #[inline(always)]
     pub fn share(&mut self, from: &Lines, b: u16) -> Result<(), NoMemory>
         requires { b < length from.now.bands }
         ensures words { OnOk result (self.new.words ≡ self.old.words) }
@@ -127,16 +128,6 @@ impl Lines {
     {
         is_set(self.line(n), i)
     }
-
-    /// The 16 places of line `n` from place 16 * group on, as the bits of a number.
-    pub fn sixteen(&self, n: u16, group: u16) -> u16
-        requires band { n / 32 < length self.now.bands }
-        requires long { length (slice_index_or self.now.bands (n / 32) []) ≡ 32 * self.now.words }
-        requires place { group / 4 < self.now.words }
-        ensures { (k : ℕ) → k < 16 → bit_at result k ≡ bit_in (line_at self.now n) (16 * group + k) }
-    {
-        quarter(self.line(n)[usize::from(group) / 4], group % 4)
-    }
 }
 
 /// Appends the bands of other lines from one up to and without another, which both hold from then on.
@@ -196,6 +187,19 @@ fn lanes_in(band: &[u64], words: usize, k: usize) -> Lanes<'_>
         left: &band[end..end + words],
         right: &band[start - words..start],
     }
+}
+
+/// The 16 places of line `k` of a band from place 16 * group on, as the bits of a number.
+#[inline(always)]
+pub fn sixteen_in(band: &[u64], words: usize, k: usize, group: u16) -> u16
+    requires long { length band.now ≡ 32 * words }
+    requires line { k < 32 }
+    requires place { group / 4 < words }
+    ensures { (b : ℕ) → b < 16 → bit_at result b ≡ bit_in (line_in words band.now k) (16 * group + b) }
+{
+    let start = k * words;
+    let line = &band[start..start + words];
+    quarter(line[usize::from(group) / 4], group % 4)
 }
 
 /// A quarter of the word's bits.

@@ -8,7 +8,7 @@ ghost use Rattle.class_planes.specs.inner.Lines.{IsBand, AreLines, AreRows, AreC
 ghost use Rattle.class_planes.specs.inner.Reading.{IsColumnBit, band_bit};
 
 use crate::band_spans::bands_about;
-use crate::lines::{BAND, Lines, copied, share_bands};
+use crate::lines::{BAND, Lines, copied, share_bands, sixteen_in};
 use lane_rows::plane_words;
 use nav_types::{Axis, NoMemory, Rect, Size};
 use std::alloc::Global;
@@ -232,7 +232,7 @@ fn write_group(
         → IsColumnBit (record { size = map.now.size; rows = map.now.rows.now }) band words.new m j }
 {
     let mut numbers = [0; 64];
-    read_columns(map.rows, map.size, 2 * band + half, 64 * w, &mut numbers);
+    read_columns(map, 2 * band + half, w, &mut numbers);
     write_word(&numbers, map.size.h, half, span, w, words);
 }
 
@@ -258,30 +258,41 @@ fn write_word(numbers: &[u16], height: u16, half: u16, span: ColumnGroup, w: u16
     }
 }
 
-/// Reads 16 columns from row `first` on: bit k of number j is set where the cell (16 * group + k, first + j) is free.
-fn read_columns(rows: &Lines, size: Size, group: u16, first: u16, numbers: &mut [u16])
-    requires rows { AreRows (record { size = size; rows = rows.now }) }
-    requires group { group / 4 < size.w / 64 + 1 }
-    requires room { first + length numbers.old ≤ 8192 }
-    ensures stays { length numbers.new ≡ length numbers.old }
-    ensures bits { (j k : ℕ) → j < length numbers.new → k < 16 → bit_at (slice_index numbers.new j) k
-        ≡ one_if (free_cell (record { size = size; rows = rows.now }) (cell_at (16 * group + k) (first + j))) }
+/// Reads 16 columns from row 64 * w on: bit k of number j is set where the cell (16 * group + k, 64 * w + j) is free. The
+/// numbers are 0 before.
+fn read_columns(map: &MapRows<'_>, group: u16, w: u16, numbers: &mut [u16])
+    requires rows { AreRows (record { size = map.now.size; rows = map.now.rows.now }) }
+    requires group { group / 4 < map.now.size.w / 64 + 1 }
+    requires word { w < map.now.size.h / 64 + 1 }
+    requires long { length numbers.old ≡ 64 }
+    requires blank { (j : ℕ) → slice_index numbers.old j ≡ 0 }
+    ensures bits { (j k : ℕ) → j < 64 → k < 16 → bit_at (slice_index numbers.new j) k
+        ≡ one_if (free_cell (record { size = map.now.size; rows = map.now.rows.now }) (cell_at (16 * group + k) (64 * w + j))) }
+    ensures stays { length numbers.new ≡ 64 }
 {
-    for j in 0..numbers.len() {
-        numbers[j] = number_at(rows, size, group, first + j as u16);
-    }
+    read_band(map, group, 2 * w, 0, numbers);
+    read_band(map, group, 2 * w + 1, BAND, numbers);
 }
 
-/// Row `j` of 16 columns. Past the last row no bit is set.
-fn number_at(rows: &Lines, size: Size, group: u16, j: u16) -> u16
-    requires rows { AreRows (record { size = size; rows = rows.now }) }
-    requires group { group / 4 < size.w / 64 + 1 }
-    ensures { (k : ℕ) → k < 16 → bit_at result k
-        ≡ one_if (free_cell (record { size = size; rows = rows.now }) (cell_at (16 * group + k) j)) }
+/// Reads 16 columns of a band of rows into the 32 numbers from place `from` on: bit k of number from + j is set where the
+/// cell (16 * group + k, 32 * band + j) is free. These numbers are 0 before, and stay so past the last band.
+fn read_band(map: &MapRows<'_>, group: u16, band: u16, from: u16, numbers: &mut [u16])
+    requires rows { AreRows (record { size = map.now.size; rows = map.now.rows.now }) }
+    requires group { group / 4 < map.now.size.w / 64 + 1 }
+    requires room { from + 32 ≤ length numbers.old }
+    requires blank { (j : ℕ) → j < 32 → slice_index numbers.old (from + j) ≡ 0 }
+    ensures stays { length numbers.new ≡ length numbers.old }
+    ensures bits { (j k : ℕ) → j < 32 → k < 16 → bit_at (slice_index numbers.new (from + j)) k
+        ≡ one_if (free_cell (record { size = map.now.size; rows = map.now.rows.now }) (cell_at (16 * group + k) (32 * band + j))) }
+    ensures others { (j : ℕ) → (from ≤ j → j < from + 32 → ⊥) → slice_index numbers.new j ≡ slice_index numbers.old j }
 {
-    if j < size.h {
-        rows.sixteen(j, group)
-    } else {
-        0
+    if band > map.size.h / BAND {
+        return;
+    }
+    let lines = map.rows.band(band);
+    let words = map.rows.words();
+    let start = usize::from(from);
+    for k in 0..usize::from(BAND) {
+        numbers[start + k] = sixteen_in(lines, words, k, group);
     }
 }
