@@ -38,7 +38,7 @@ PARTS = {
         ("The chosen walk goes by jump points", "jump_search search:find", "jump_search: Stopping RunEnds"),
         ("A search by a consistent estimate that has ended has every state that the chosen walk needs, at its cost", "jump_search search:find", "jump_search: Measuring Landing Framing Bounding Relaxing Dropping Taking Halting"),
         ("Its end is the first of the nearest targets, and the walk that is traced back by costs is the chosen one", "jump_search search:find", "jump_search: Ending LastRuns Picking GoingBack Answering"),
-        ("The way out of a rectangle without goal cells is an estimate by which a search may go", "jump_search search:find", "jump_search: WaysOut"),
+        ("The way out of a rectangle, a disc or a turned square without goal cells is an estimate by which a search may go", "jump_search search:find", "jump_search: WaysOut Roots Rims Sides\nturn_core: OutOfShapes"),
         ("A run beyond the cost of a walk that is known may be cut off", "jump_search search:find", "jump_search: Bounding Ending"),
         ("The opened number is exact", "jump_search search:trace; jump_search one_opened_number", "jump_search: Opening OneNumber"),
         ("Runs over bitboards stop where the definition says", "class_planes plane_scans:straight; class_planes plane_scans:diagonal", "class_planes: FarLemmas OpeningLemmas StepLemmas StopLemmas"),

@@ -16,6 +16,9 @@ pub mod Answering
 pub mod OneNumber
 pub mod Framing
 pub mod WaysOut
+pub mod Roots
+pub mod Rims
+pub mod Sides
 pub mod PastWalls
 pub mod Halting
 pub mod Keeping

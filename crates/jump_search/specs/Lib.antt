@@ -1,4 +1,5 @@
 pub mod Estimates
+pub mod Gains
 pub mod JumpStates
 pub mod Questions
 pub mod inner

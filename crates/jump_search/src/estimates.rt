@@ -1,10 +1,11 @@
 //! Estimates of what is ahead of a cell.
-ghost use Rattle.std.specs.Prelude.{◌≡◌, ◌+◌, ◌-◌, ◌^◌, ◌<◌, ◌≤◌, min};
-ghost use Rattle.jump_search.specs.Estimates.{cost_out, cost_past};
+ghost use Rattle.std.specs.Prelude.{◌≡◌, ◌^◌, ◌<◌};
+ghost use Rattle.jump_search.specs.Estimates.{cost_past, least_costly};
 
 use crate::octile::octile_to;
+use crate::rooms::{Disc, TurnedRoom};
+use crate::ways_out::{cost_out, cost_to_rim, cost_to_side};
 use landmarks::{Landmarks, NumberSpan};
-use nav_types::limits::STRAIGHT_COST;
 use nav_types::{Cell, Rect};
 
 /// What a walk from a cell to the cells that are looked for costs at least. A search opens the cells first from which, with
@@ -31,6 +32,17 @@ pub struct Marked<'a> {
     pub span: NumberSpan,
 }
 
+/// The estimates that take more than a few instructions.
+#[derive(Drop)]
+pub enum CostlyEstimate<'a> {
+    /// The octile distance, or the bound that tables of landmarks give where that is greater.
+    Past(Marked<'a>),
+    /// The way out of a disc in which no cell is looked for.
+    OutOfDisc(Disc),
+    /// The way out of a turned rectangle in which no cell is looked for.
+    OutOfTurned(TurnedRoom),
+}
+
 /// The estimates by which searches for a target go. They are one type, so that one search goes by any of them.
 #[derive(Drop)]
 pub enum TargetEstimate<'a> {
@@ -38,8 +50,8 @@ pub enum TargetEstimate<'a> {
     Octile(Rect),
     /// The way out of a rectangle in which no cell is looked for.
     Leaving(Rect),
-    /// The octile distance, or the bound that tables of landmarks give where that is greater.
-    Past(Marked<'a>),
+    /// What else is known of the way.
+    Costly(CostlyEstimate<'a>),
 }
 
 impl<'a> Estimate for TargetEstimate<'a> {
@@ -52,39 +64,30 @@ impl<'a> Estimate for TargetEstimate<'a> {
         match self {
             TargetEstimate::Octile(rect) => octile_to(rect, cell),
             TargetEstimate::Leaving(rect) => cost_out(rect, cell),
-            TargetEstimate::Past(marked) => cost_past(marked, cell),
+            TargetEstimate::Costly(estimate) => least_costly(estimate, cell),
         }
     }
 }
 
-/// The octile distance to the rectangle, or the bound by the tables where that is greater. It is a call, so that an octile
-/// estimate has the room of a search's innermost loop for itself.
+/// What a costly estimate says of a cell. It is a call, so that an octile estimate has the room of a search's innermost loop
+/// for itself.
 #[inline(never)]
+fn least_costly(estimate: &CostlyEstimate<'_>, cell: Cell) -> u64
+    ensures value { result ≡ least_costly estimate.now cell }
+    ensures most { result < 2 ^ 40 }
+{
+    match estimate {
+        CostlyEstimate::Past(marked) => cost_past(marked, cell),
+        CostlyEstimate::OutOfDisc(disc) => cost_to_rim(disc, cell),
+        CostlyEstimate::OutOfTurned(room) => cost_to_side(room, cell),
+    }
+}
+
+/// The octile distance to the rectangle, or the bound by the tables where that is greater.
 fn cost_past(marked: &Marked<'_>, cell: Cell) -> u64
     ensures value { result ≡ cost_past marked.now cell }
     ensures most { result < 2 ^ 40 }
 {
     let octile = octile_to(&marked.rect, cell);
     octile.max(marked.tables.at_least_to(cell, &marked.span))
-}
-
-/// How few steps lead from a place out of a part of one side of a map.
-fn steps_out(place: u16, first: u16, last: u16) -> u64
-    ensures value { result ≡ min (place + 1 - first) (last + 1 - place) }
-    ensures few { result ≤ 2 ^ 16 }
-{
-    let back = (place as u64 + 1).saturating_sub(first as u64);
-    let ahead = (last as u64 + 1).saturating_sub(place as u64);
-    back.min(ahead)
-}
-
-/// What the steps out of a rectangle cost at least.
-#[inline(always)]
-fn cost_out(rect: &Rect, cell: Cell) -> u64
-    ensures value { result ≡ cost_out rect.now cell }
-    ensures most { result < 2 ^ 40 }
-{
-    let columns = steps_out(cell.i, rect.i0, rect.i1);
-    let rows = steps_out(cell.j, rect.j0, rect.j1);
-    STRAIGHT_COST * columns.min(rows)
 }

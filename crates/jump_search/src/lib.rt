@@ -24,14 +24,17 @@ mod nodes;
 mod octile;
 mod pages;
 mod problems;
+mod rooms;
 mod search;
 mod searching;
 mod states;
 mod tracing;
+mod ways_out;
 
-pub use estimates::{Estimate, Marked, TargetEstimate};
+pub use estimates::{CostlyEstimate, Estimate, Marked, TargetEstimate};
 pub use laws::{one_opened_number, one_pruned_cost};
 pub use problems::{Guided, Question};
+pub use rooms::{Disc, TurnedRoom};
 pub use search::{JumpSearch, Pool, Traced, jump_search, jump_search_with};
 pub use searching::Best;
 pub use states::JumpState;

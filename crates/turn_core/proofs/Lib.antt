@@ -4,6 +4,7 @@ pub mod Itemwise
 pub mod OneAnswer
 pub mod OneNote
 pub mod NotedPaths
+pub mod OutOfShapes
 pub mod Searchable
 pub mod KeptFields
 pub mod TurnByTurn

@@ -5,6 +5,9 @@ use Rattle.nav_types.specs.declared.cells.Rect.{Rect}
 use Rattle.nav_types.specs.declared.cells.Size.{Size}
 use Rattle.nav_types.specs.Cells.{IsInside, IsInRect, cell_at}
 use Rattle.nav_types.specs.Frames.{IsFrame}
+use Rattle.fixed_point.specs.declared.plane.Rectangle.{Rectangle}
+use Rattle.fixed_point.specs.Plane.{IsUnitVector}
+use Rattle.goal_shapes.specs.declared.goals.Goal.TheVariants.{NotCircle, NotSquare}
 use Rattle.goal_shapes.specs.Goals.{contains, framed}
 use Rattle.goal_shapes.specs.inner.Framing.{contains_framed}
 use Rattle.goal_reach.specs.declared.targets.Target.{Target}
@@ -15,13 +18,18 @@ use Rattle.landmarks.specs.Landmarks.{Tables}
 use Rattle.landmarks.specs.Spans.{IsSpanned, IsSpanOf}
 use Rattle.landmarks.proofs.Spanning.{span_of_spans}
 use Rattle.jump_search.specs.declared.estimates.Marked.{Marked}
-use Rattle.jump_search.specs.Estimates.{IsEstimate, cost_out, cost_past}
+use Rattle.jump_search.specs.declared.estimates.CostlyEstimate.{CostlyEstimate}
+use Rattle.jump_search.specs.declared.estimates.CostlyEstimate.TheVariants.{Past, OutOfDisc, OutOfTurned}
+use Rattle.jump_search.specs.Estimates.{IsEstimate, cost_out, cost_past, cost_to_rim, cost_to_side, least_costly}
 use Rattle.jump_search.specs.JumpStates.{CanSearch}
 use Rattle.jump_search.proofs.PastWalls.{past_estimate}
+use Rattle.jump_search.proofs.Rims.{rim_estimate}
+use Rattle.jump_search.proofs.Sides.{side_estimate}
 use Rattle.jump_search.proofs.WaysOut.{leaving_estimate}
 use Rattle.grid_versions.specs.inner.PassingLaws.{passes_within}
 use Rattle.grid_versions.specs.Versions.{MapState, passes_of}
-use Rattle.turn_core.specs.inner.Searching.{CanFind, IsMarkedFor, IsOnlyCell, IsRoomFor}
+use Rattle.turn_core.specs.inner.Searching.{CanFind, IsMarkedFor, IsOnlyCell, IsRoomFor, IsWayOut}
+use Rattle.turn_core.proofs.OutOfShapes.{circle_framed, square_framed, off_disc, off_square}
 
 -- what is said of a search is said of a search that asks the same
 pub same_search : (Said : MapState → ℕ → Cell → Target → Type 0) {state other : MapState} {class k : ℕ} {start from : Cell} {target aim : Target}
@@ -53,6 +61,26 @@ room_estimate passes size (Near cell) rect within never = absurd never
 pub can_leave : (state : MapState) (class : ℕ) (target : Target) (rect : Rect) → IsRoomFor target rect
     → IsEstimate (passes_of state class) (hit_by target) (framed_by target) state.map.size (cost_out rect)
 can_leave state class target rect room = room_estimate (passes_of state class) state.map.size target rect (passes_within state class) room
+
+-- a square that is a sound target turned inside out lies along a unit vector
+pub unit_of : (size : Size) (target : Target) (s : Rectangle) → IsSoundTarget size target → target ≡ GoalTarget (NotSquare s)
+    → IsUnitVector s.ux s.uz
+unit_of size target s sound is = let goal = subst (λ (t : Target). IsSoundTarget size t) is sound in goal.well_formed.unit_vector
+
+-- the way out of a circle or a square is an estimate for a search for what lies outside
+pub can_lead_out : (state : MapState) (class : ℕ) (target : Target) (out : CostlyEstimate) → IsWayOut target out
+    → IsEstimate (passes_of state class) (hit_by target) (framed_by target) state.map.size (least_costly out)
+can_lead_out state class target (Past marked) never = absurd never
+can_lead_out state class target (OutOfDisc disc) is = let passes = passes_of state class in let size = state.map.size in
+    let goal = NotCircle disc.x disc.z disc.r in
+    subst (λ (t : Target). IsEstimate passes (hit_by t) (framed_by t) size (cost_to_rim disc)) (sym is)
+    (rim_estimate passes (contains goal) (framed goal) size disc (passes_within state class)
+    (circle_framed disc.x disc.z disc.r) (off_disc disc))
+can_lead_out state class target (OutOfTurned room) is = let passes = passes_of state class in let size = state.map.size in
+    let goal = NotSquare room.rectangle in
+    subst (λ (t : Target). IsEstimate passes (hit_by t) (framed_by t) size (cost_to_side room)) (sym is)
+    (side_estimate passes (contains goal) (framed goal) size room (passes_within state class)
+    (square_framed room.rectangle) (off_square room.rectangle))
 
 -- the cells that a target hits are in its rectangle
 hits_framed : (target : Target) (cell : Cell) → IsTrue (hit_by target cell) → IsTrue (framed_by target cell)

@@ -5,12 +5,15 @@ ghost use Rattle.goal_reach.specs.Targets.{hit_by, framed_by};
 ghost use Rattle.jump_search.specs.Estimates.{IsEstimate, least_ahead};
 ghost use Rattle.grid_versions.specs.Versions.{passes_of};
 ghost use Rattle.turn_core.specs.Solving.{is_near};
-ghost use Rattle.turn_core.specs.inner.Searching.{CanFind, IsFoundTo, IsMarkedFor, IsOnlyCell, IsRoomFor, path_by};
+ghost use Rattle.turn_core.specs.inner.Searching.{CanFind, IsFoundTo, IsMarkedFor, IsOnlyCell, IsRoomFor, IsWayOut, path_by};
 
 use class_planes::PlaneRuns;
 use goal_reach::{Target, room_in};
+use goal_shapes::Goal;
 use grid_versions::Version;
-use jump_search::{Guided, JumpSearch, Marked, Pool, Question, TargetEstimate};
+use jump_search::{
+    CostlyEstimate, Disc, Guided, JumpSearch, Marked, Pool, Question, TargetEstimate, TurnedRoom,
+};
 use nav_types::{Aim, Cell, Class, NoMemory, Rect, View};
 use posts::{Note, PathAnswer};
 use std::alloc::Global;
@@ -61,7 +64,7 @@ impl<'a> TargetSearch<'a> {
     }
 
     /// What the search goes by where it knows more than octile distances: the way out of the room that the goal leaves about
-    /// the start, or tables of landmarks.
+    /// the start, the way out of the goal's shape, or tables of landmarks.
     fn ahead(&self) -> Option<TargetEstimate<'a>>
         requires { CanFind self.now.version.now self.now.class self.now.start self.now.target.now }
         ensures { IfSome result (λ ahead. IsEstimate (passes_of self.now.version.now self.now.class) (hit_by self.now.target.now)
@@ -70,8 +73,28 @@ impl<'a> TargetSearch<'a> {
         if let Some(rect) = self.room() {
             return Some(TargetEstimate::Leaving(rect));
         }
+        if let Some(out) = self.way_out() {
+            return Some(TargetEstimate::Costly(out));
+        }
         let marked = self.marked()?;
-        Some(TargetEstimate::Past(marked))
+        Some(TargetEstimate::Costly(CostlyEstimate::Past(marked)))
+    }
+
+    /// The way out of a circle or a square, where the target is what lies outside of it.
+    fn way_out(&self) -> Option<CostlyEstimate<'a>>
+        requires { CanFind self.now.version.now self.now.class self.now.start self.now.target.now }
+        ensures { IfSome result (IsWayOut self.now.target.now) }
+    {
+        let Target::Goal(goal) = self.target else {
+            return None;
+        };
+        match *goal {
+            Goal::NotCircle { x, z, r } => Some(CostlyEstimate::OutOfDisc(Disc { x, z, r })),
+            Goal::NotSquare(rectangle) => {
+                Some(CostlyEstimate::OutOfTurned(TurnedRoom::new(rectangle)))
+            }
+            _ => None,
+        }
     }
 
     /// What the version's tables of landmarks tell of the way to the target. None where the class has no tables, and where

@@ -6,6 +6,7 @@ use Rattle.nav_types.specs.declared.cells.Size.{Size}
 use Rattle.nav_types.specs.Frames.{IsFrame}
 use Rattle.nav_types.specs.Regions.{HasArea}
 use Rattle.nav_types.specs.Walks.{CanReach}
+use Rattle.goal_shapes.specs.declared.goals.Goal.TheVariants.{NotCircle, NotSquare}
 use Rattle.goal_reach.specs.declared.targets.Target.{Target}
 use Rattle.goal_reach.specs.declared.targets.Target.TheVariants.{Goal as GoalTarget, Near}
 use Rattle.goal_reach.specs.Rooms.{IsRoomIn}
@@ -14,6 +15,8 @@ use Rattle.walks.specs.Chosen.{IsAnswer}
 use Rattle.walks.specs.declared.found_walk.Found.{Found}
 use Rattle.landmarks.specs.Landmarks.{AreGentle}
 use Rattle.landmarks.specs.Spans.{IsSpanned}
+use Rattle.jump_search.specs.declared.estimates.CostlyEstimate.{CostlyEstimate}
+use Rattle.jump_search.specs.declared.estimates.CostlyEstimate.TheVariants.{Past, OutOfDisc, OutOfTurned}
 use Rattle.jump_search.specs.declared.estimates.Marked.{Marked}
 use Rattle.flow_field.specs.Flows.{IsFieldOf, HasSummary}
 use Rattle.posts.specs.declared.notes.Report.{Report}
@@ -40,6 +43,12 @@ IsFoundTo state class start target found =
 abbrev pub IsRoomFor : Target → Rect → Type 0
 IsRoomFor (GoalTarget goal) rect = IsRoomIn goal rect
 IsRoomFor (Near cell) rect = ⊥
+
+-- the target is what lies outside of the shape that the way leads out of
+abbrev pub IsWayOut : Target → CostlyEstimate → Type 0
+IsWayOut target (Past marked) = ⊥
+IsWayOut target (OutOfDisc disc) = target ≡ GoalTarget (NotCircle disc.x disc.z disc.r)
+IsWayOut target (OutOfTurned room) = target ≡ GoalTarget (NotSquare room.rectangle)
 
 -- the rectangle has this cell and no other
 pub record IsOnlyCell (rect : Rect) (cell : Cell) : Type 0 where
