@@ -6,11 +6,11 @@ use Rattle.std.proofs.lemmas.Bool.{or_cases, false≢true}
 use Rattle.std.proofs.Math.Nat.{mul-le-mul}
 use Rattle.nav_types.specs.declared.cells.Cell.{Cell}
 use Rattle.fixed_point.specs.declared.plane.Rectangle.{Rectangle}
-use Rattle.fixed_point.specs.Plane.{square, from_centre, along, across, centre_along, centre_across}
+use Rattle.fixed_point.specs.Plane.{square, from_centre, along, across}
 use Rattle.goal_shapes.specs.declared.goals.Goal.TheVariants.{NotCircle, NotSquare}
 use Rattle.goal_shapes.specs.Goals.{contains, framed, from_edge, squared_length, is_off_circle, is_off_square}
 use Rattle.jump_search.specs.declared.rooms.Disc.{Disc}
-use Rattle.jump_search.specs.Estimates.{depth_within, farther_corner, farther_edge}
+use Rattle.jump_search.specs.Estimates.{depth_within, farther_edge}
 use Rattle.jump_search.proofs.Rims.{IsOffDisc}
 use Rattle.jump_search.proofs.Sides.{along_near, across_near}
 
