@@ -1,6 +1,6 @@
 -- The canonical lines of posts read back.
-use Rattle.std.proofs.Common.{◌≡◌, ℕ, ◌<◌, ◌≤◌, ◌^◌, ◌||◌, ◌==◌, List, [], ◌∷◌, Bool, true, false, cond, Some, nat_le, refl, inl, inr, arith}
-use Rattle.std.specs.Prelude.{codes}
+use Rattle.std.proofs.Common.{◌≡◌, ℕ, ◌<◌, ◌≤◌, ◌^◌, ◌||◌, ◌==◌, List, [], ◌∷◌, Bool, true, false, Some, nat_le, refl, inl, inr, arith}
+use Rattle.std.specs.Prelude.{codes, map, zip}
 use Rattle.std.proofs.lemmas.Bool.{leb-true, eqb-true}
 use Rattle.std.proofs.lemmas.Bool.Decides.{leb_tells}
 use Rattle.serde_json.specs.Data.{Data, string, object, no_members, member}
@@ -10,9 +10,10 @@ use Rattle.posts.specs.declared.posts.Post.{Post}
 use Rattle.posts.specs.declared.edits.Edit.TheVariants.{Add, Remove, Move}
 use Rattle.posts.specs.declared.posts.Post.TheVariants.{Edit as Edits, Ask as Asks}
 use Rattle.posts.specs.declared.posts.Request.TheVariants.{Path, Region}
-use Rattle.script_text.specs.Canon.{whole_json, decimals_json, object_json, goal_json, post_json, is_post_of}
+use Rattle.script_text.specs.Canon.{whole_json, decimals_json, object_json, goal_json, add_form, post_json, is_post_of}
+use Rattle.script_text.specs.Table.{key_text, keys_by}
 use Rattle.script_text.specs.Forms.{post_of}
-use Rattle.script_text.specs.Grammar.{IsObject, IsPostLine, rectangle_decimals, shape_key, shape_decimals}
+use Rattle.script_text.specs.Grammar.{IsObject, IsPostLine, rectangle_decimals, shape_decimals}
 use Rattle.script_text.specs.ReadsBack.{AreFixed, IsPostValue}
 use Rattle.script_text.proofs.BackForms.{ReadsTo}
 use Rattle.script_text.proofs.BackTexts.{IsSimple, sorted, text-name, reads_sorted}
@@ -78,8 +79,8 @@ second_last k l m n d e f g = record {
 -- the value of an add line, with a mask or without one
 abbrev add_json : Bool → ℕ → ℕ → ℕ → Shape → Data
 add_json masked caller id mask shape = object_json (
-    (codes "caller", whole_json caller) ∷ (codes "add", whole_json id) ∷ (shape_key shape, decimals_json (shape_decimals shape))
-    ∷ cond masked ((codes "mask", whole_json mask) ∷ []) [])
+    zip (map key_text (keys_by masked (add_form shape)))
+    (whole_json caller ∷ whole_json id ∷ decimals_json (shape_decimals shape) ∷ whole_json mask ∷ []))
 
 simple_add : (masked : Bool) (caller id mask : ℕ) (shape : Shape) → caller < 2 ^ 64 → id < 2 ^ 64 → mask < 2 ^ 64 → AreFixed (shape_decimals shape)
     → IsSimple (add_json masked caller id mask shape) 8

@@ -155,29 +155,9 @@ key_text key = 34 ∷ (key ++ 34 ∷ 58 ∷ [])
 pub two_pieces : (t a b z : List ℕ) → ((t ++ a) ++ b) ++ z ≡ t ++ (a ++ (b ++ z))
 two_pieces t a b z = append_assoc (t ++ a) b z ∙ append_assoc t a (b ++ z)
 
-pub four_pieces : (t a b c d z : List ℕ) → ((((t ++ a) ++ b) ++ c) ++ d) ++ z ≡ t ++ (a ++ (b ++ (c ++ (d ++ z))))
-four_pieces t a b c d z = two_pieces ((t ++ a) ++ b) c d z ∙ two_pieces t a b (c ++ (d ++ z))
-
 -- two values of an array, and what follows it
 pub pair_pieces : (x z r : List ℕ) → x ++ 44 ∷ (z ++ 93 ∷ r) ≡ (x ++ 44 ∷ (z ++ 93 ∷ [])) ++ r
 pair_pieces x z r = sym (append_assoc x (44 ∷ (z ++ 93 ∷ [])) r ∙ ap (λ y. x ++ 44 ∷ y) (append_assoc z (93 ∷ []) r))
-
--- a line that asks, up to its point
-pub asking_pieces : (t a c k n p d : List ℕ) → (((t ++ (a ++ (c ++ (k ++ [])))) ++ n) ++ p) ++ d ≡ t ++ (a ++ (c ++ (k ++ (n ++ (p ++ d)))))
-asking_pieces t a c k n p d =
-    ap (λ (x : List ℕ). (((t ++ (a ++ (c ++ x))) ++ n) ++ p) ++ d) (append-nil k) ∙ two_pieces (t ++ (a ++ (c ++ k))) n p d
-    ∙ append_assoc t (a ++ (c ++ k)) (n ++ (p ++ d)) ∙ ap (λ (x : List ℕ). t ++ x) (append_assoc a (c ++ k) (n ++ (p ++ d)) ∙ ap (λ (x : List ℕ). a ++ x) (append_assoc c k (n ++ (p ++ d))))
-
--- and what follows it
-pub asked_pieces : (t a c k n p d z : List ℕ) → (t ++ (a ++ (c ++ (k ++ (n ++ (p ++ d)))))) ++ z ≡ t ++ (a ++ (c ++ (k ++ (n ++ (p ++ (d ++ z))))))
-asked_pieces t a c k n p d z =
-    append_assoc t (a ++ (c ++ (k ++ (n ++ (p ++ d))))) z ∙ ap (λ (x : List ℕ). t ++ x) (append_assoc a (c ++ (k ++ (n ++ (p ++ d)))) z
-    ∙ ap (λ (x : List ℕ). a ++ x) (append_assoc c (k ++ (n ++ (p ++ d))) z ∙ ap (λ (x : List ℕ). c ++ x) (append_assoc k (n ++ (p ++ d)) z
-    ∙ ap (λ (x : List ℕ). k ++ x) (append_assoc n (p ++ d) z ∙ ap (λ (x : List ℕ). n ++ x) (append_assoc p d z)))))
-
--- a member after others, and what follows it
-pub member_piece : (key value rest : List ℕ) → (44 ∷ (key ++ 58 ∷ value)) ++ rest ≡ 44 ∷ (key ++ 58 ∷ (value ++ rest))
-member_piece key value rest = ap (λ t. 44 ∷ t) (append_assoc key (58 ∷ value) rest)
 
 -- ---- classes
 
@@ -206,13 +186,6 @@ class-more classes i name clearance later now comma after all n c first second s
   where
     more : (later : Bool) (now comma after all x rest : List ℕ) → comma ≡ now ++ comma_if later → after ≡ comma ++ x → now ++ (comma_if later ++ (x ++ rest)) ≡ all → after ++ rest ≡ all
     more later now comma after all x rest first second so_far = ap (λ t. t ++ rest) (second ∙ ap (λ t. t ++ x) first) ∙ two_pieces now (comma_if later) x rest ∙ so_far
-
--- the pieces of an add line: its mask stands after its shape
-pub add_pieces : (t a b c d key value z : List ℕ)
-    → (((((t ++ a) ++ b) ++ c) ++ d) ++ (44 ∷ (key ++ 58 ∷ value))) ++ z ≡ t ++ (a ++ (b ++ (c ++ (d ++ (44 ∷ (key ++ 58 ∷ (value ++ z)))))))
-add_pieces t a b c d key value z =
-    append_assoc ((((t ++ a) ++ b) ++ c) ++ d) (44 ∷ (key ++ 58 ∷ value)) z ∙ four_pieces t a b c d ((44 ∷ (key ++ 58 ∷ value)) ++ z)
-    ∙ ap (λ r. t ++ (a ++ (b ++ (c ++ (d ++ r))))) (member_piece key value z)
 
 -- ---- base lines
 

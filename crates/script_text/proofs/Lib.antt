@@ -21,6 +21,7 @@ pub mod GrammarPosts
 pub mod PostVersions
 mod TurnItems
 pub mod CanonTexts
+pub mod FormTexts
 pub mod BackForms
 pub mod ShallowTexts
 pub mod BlockLooks

@@ -1,13 +1,16 @@
--- The canonical script: each line is a JSON value written with no white space, its keys in the order that stands here,
--- and a newline (10). Numbers are decimal, and fixed-point numbers their canonical texts as strings.
-use Rattle.std.specs.Prelude.{ℕ, zero, suc, ◌+◌, ◌==◌, ◌||◌, List, [], ◌∷◌, ◌++◌, length, take, drop, map, flat_map, Bool, true, IsTrue, nat_le, ℤ, codes, if◌then◌else◌}
+-- The canonical script: each line is a JSON value written with no white space, its keys in the order of the table of
+-- forms, and a newline (10). Numbers are decimal, and fixed-point numbers their canonical texts as strings.
+use Rattle.std.specs.Prelude.{ℕ, zero, suc, ◌+◌, ◌==◌, ◌||◌, List, [], ◌∷◌, ◌++◌, length, take, drop, map, flat_map, zip, Bool, true, IsTrue, nat_le, ℤ, codes}
 use Rattle.std.specs.List.{list_all}
 use Rattle.serde_json.specs.Data.{Data, number, unsigned, string, array, object, Members, no_members, member}
 use Rattle.serde_json.specs.View.{items_of}
 use Rattle.serde_json.specs.Written.{compact_text}
 use Rattle.nav_types.specs.declared.cells.Rect.{Rect}
+use Rattle.nav_types.specs.declared.cells.Size.{Size}
 use Rattle.fixed_point.specs.Text.{fixed_text}
 use Rattle.class_config.specs.declared.table.PassabilityClass.{PassabilityClass}
+use Rattle.obstruction_shapes.specs.declared.shapes.Shape.{Shape}
+use Rattle.obstruction_shapes.specs.declared.shapes.Shape.TheVariants.{Unit as UnitShape, Square as SquareShape}
 use Rattle.goal_shapes.specs.declared.goals.GoalSpec.{GoalSpec}
 use Rattle.goal_shapes.specs.declared.goals.GoalSpec.TheVariants.{Plain, Obstruction as ByObstruction}
 use Rattle.posts.specs.declared.posts.Post.{Post}
@@ -15,9 +18,13 @@ use Rattle.posts.specs.declared.edits.Edit.TheVariants.{Add, Remove, Move}
 use Rattle.posts.specs.declared.posts.Post.TheVariants.{Edit as Edits, Ask as Asks}
 use Rattle.posts.specs.declared.posts.Request.TheVariants.{Path, Region}
 use Rattle.posts.specs.Maps.{Map}
-use Rattle.script_text.specs.Table.{goal_key_text}
+use Rattle.script_text.specs.declared.goals.GoalKey.TheVariants as goal_key
+use Rattle.script_text.specs.declared.table.Form.{Form}
+use Rattle.script_text.specs.declared.table.Form.TheVariants as form
+use Rattle.script_text.specs.declared.versions.TheConstants.{NEWEST_VERSION}
+use Rattle.script_text.specs.Table.{goal_key_text, texts_of}
 use Rattle.script_text.specs.Goals.{key_of, goal_decimals}
-use Rattle.script_text.specs.Grammar.{shape_key, shape_decimals}
+use Rattle.script_text.specs.Grammar.{shape_decimals}
 
 -- ---- values
 
@@ -44,6 +51,11 @@ in_order (first ∷ others) = member first.0 first.1 (in_order others)
 abbrev pub object_json : List (List ℕ × Data) → Data
 object_json members = object (in_order members)
 
+-- the line of a form in a script of this version: under each of its keys the value in its place; a value beyond the keys
+-- is left out
+abbrev pub form_json : ℕ → Form → List Data → Data
+form_json version f values = object_json (zip (texts_of version f) values)
+
 -- a value as a line
 unfoldable pub line : Data → List ℕ
 line d = compact_text d ++ 10 ∷ []
@@ -53,16 +65,18 @@ line d = compact_text d ++ 10 ∷ []
 abbrev pub class_json : PassabilityClass → Data
 class_json class = object_json ((codes "name", string class.name) ∷ (codes "clearance", decimal_json class.clearance) ∷ [])
 
+abbrev pub sides_json : Size → Data
+sides_json size = wholes_json (size.w ∷ size.h ∷ [])
+
 unfoldable pub map_json : Map → Data
-map_json m = object_json (
-    (codes "version", whole_json m.version) ∷ (codes "size", wholes_json (m.size.w ∷ m.size.h ∷ []))
-    ∷ (codes "callers", whole_json m.callers) ∷ (codes "classes", list_json (map class_json m.classes)) ∷ [])
+map_json m = form_json NEWEST_VERSION form.Map (
+    whole_json m.version ∷ sides_json m.size ∷ whole_json m.callers ∷ list_json (map class_json m.classes) ∷ [])
 
 abbrev pub entry_json : Rect × ℕ → Data
 entry_json entry = wholes_json (entry.0.i0 ∷ entry.0.j0 ∷ entry.0.i1 ∷ entry.0.j1 ∷ entry.1 ∷ [])
 
 unfoldable pub base_json : List (Rect × ℕ) → Data
-base_json rects = object_json ((codes "base", list_json (map entry_json rects)) ∷ [])
+base_json rects = form_json NEWEST_VERSION form.Base (list_json (map entry_json rects) ∷ [])
 
 -- a list in pieces of so many items, the last with the rest; the first number is not below the number of pieces
 abbrev pub pieces : {X : Type 0} → ℕ → ℕ → List X → List (List X)
@@ -85,24 +99,25 @@ shape_json key raws = object_json ((key, decimals_json raws) ∷ [])
 
 unfoldable pub goal_json : GoalSpec → Data
 goal_json (Plain goal) = shape_json (goal_key_text (key_of goal)) (goal_decimals goal)
-goal_json (ByObstruction id grow) = object_json ((codes "obstruction", list_json (whole_json id ∷ decimal_json grow ∷ [])) ∷ [])
+goal_json (ByObstruction id grow) =
+    object_json ((goal_key_text goal_key.Obstruction, list_json (whole_json id ∷ decimal_json grow ∷ [])) ∷ [])
 
--- the mask stands last, from version 2 on
-abbrev pub mask_members : ℕ → ℕ → List (List ℕ × Data)
-mask_members version mask = if nat_le 2 version then (codes "mask", whole_json mask) ∷ [] else []
+-- the form of the line that adds an obstruction of this shape
+abbrev pub add_form : Shape → Form
+add_form (UnitShape x z half) = form.AddUnit
+add_form (SquareShape rectangle) = form.AddSquare
 
+-- the line of a post of this caller; without a mask, where the version has none
 unfoldable pub post_json : ℕ → ℕ → Post → Data
-post_json version caller (Edits (Add id o)) = object_json (
-    (codes "caller", whole_json caller) ∷ (codes "add", whole_json id) ∷ (shape_key o.shape, decimals_json (shape_decimals o.shape))
-    ∷ mask_members version o.mask)
-post_json version caller (Edits (Remove id)) = object_json ((codes "caller", whole_json caller) ∷ (codes "remove", whole_json id) ∷ [])
+post_json version caller (Edits (Add id o)) =
+    form_json version (add_form o.shape) (whole_json caller ∷ whole_json id ∷ decimals_json (shape_decimals o.shape) ∷ whole_json o.mask ∷ [])
+post_json version caller (Edits (Remove id)) = form_json version form.Remove (whole_json caller ∷ whole_json id ∷ [])
 post_json version caller (Edits (Move id x z)) =
-    object_json ((codes "caller", whole_json caller) ∷ (codes "move", whole_json id) ∷ (codes "to", decimals_json (x ∷ z ∷ [])) ∷ [])
-post_json version caller (Asks (Path class x z goal)) = object_json (
-    (codes "caller", whole_json caller) ∷ (codes "path", string class) ∷ (codes "from", decimals_json (x ∷ z ∷ []))
-    ∷ (codes "goal", goal_json goal) ∷ [])
+    form_json version form.Move (whole_json caller ∷ whole_json id ∷ decimals_json (x ∷ z ∷ []) ∷ [])
+post_json version caller (Asks (Path class x z goal)) =
+    form_json version form.Path (whole_json caller ∷ string class ∷ decimals_json (x ∷ z ∷ []) ∷ goal_json goal ∷ [])
 post_json version caller (Asks (Region class x z)) =
-    object_json ((codes "caller", whole_json caller) ∷ (codes "region", string class) ∷ (codes "at", decimals_json (x ∷ z ∷ [])) ∷ [])
+    form_json version form.Region (whole_json caller ∷ string class ∷ decimals_json (x ∷ z ∷ []) ∷ [])
 
 -- the lines of a caller's posts, in their order
 unfoldable pub canon_posts : ℕ → ℕ → List Post → List ℕ
@@ -114,7 +129,7 @@ canon_callers version caller [] = []
 canon_callers version caller (posts ∷ others) = canon_posts version caller posts ++ canon_callers version (caller + 1) others
 
 unfoldable pub end_json : ℕ → Data
-end_json turn = object_json ((codes "end", whole_json turn) ∷ [])
+end_json turn = form_json NEWEST_VERSION form.End (whole_json turn ∷ [])
 
 -- a turn: the posts of caller 0, of caller 1 and so on, and the end line
 unfoldable pub canon_journal : Map → ℕ → List (List Post) → List ℕ

@@ -1,5 +1,5 @@
 -- The table of the forms of lines: the keys of each form, in their order, the versions that have it, and what must stand
--- under each key. What is read of a line and the cause of a bad one go by it.
+-- under each key. What is read of a line, the cause of a bad one and the canonical text go by it.
 use Rattle.std.specs.Prelude.{ℕ, ◌&&◌, List, [], ◌∷◌, map, nat_le, Bool, true, Option, if◌then◌else◌, codes}
 use Rattle.std.specs.List.{find}
 use Rattle.std.proofs.Common.{refl}

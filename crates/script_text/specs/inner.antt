@@ -1,4 +1,5 @@
 pub mod Blocks
 pub mod Judging
+pub mod LineValues
 pub mod Pieces
 pub mod Plain

@@ -3,6 +3,7 @@ ghost use Rattle.std.specs.Prelude.{◌≡◌, ◌++◌, All, IfOk, IsOk, OnOk};
 ghost use Rattle.script_text.specs.Canon as canon;
 ghost use Rattle.script_text.specs.ReadsBack.{IsMapValue, IsPostValue, ArePostValues};
 
+mod form_lines;
 mod maps;
 pub(crate) mod pieces;
 mod post_lines;

@@ -13,6 +13,7 @@ pub(crate) mod values;
 
 use crate::causes::Key;
 use crate::table::{Form, form_of, has_form};
+use crate::versions::NEWEST_VERSION;
 use class_config::{ClassRefusal, ClassTable};
 use nav_types::limits::MAX_CALLERS;
 use nav_types::{NoMemory, Size};
@@ -27,19 +28,16 @@ pub struct CallerPost {
     pub post: Post,
 }
 
-/// The newest version of a script.
-pub(crate) const NEWEST_VERSION: u64 = 3;
-
 /// The map of a map line, which has no base rectangle yet. None where the value is no map line.
 #[tactic(auto, unfolding(crate::specs::Forms::map_of))]
 pub(crate) fn map_of(alloc: Global, value: &Value) -> Result<Option<MapSpec>, NoMemory>
     ensures { IfOk result (λ made. made ≡ form.map_of (view value.now)) }
 {
-    if !has_form(NEWEST_VERSION as u8, value, Form::Map) {
+    if !has_form(NEWEST_VERSION, value, Form::Map) {
         return Ok(None);
     }
     let (Some(version), Some(size), Some(callers)) = (
-        values::whole_under(1, NEWEST_VERSION, value, Key::Version),
+        values::whole_under(1, u64::from(NEWEST_VERSION), value, Key::Version),
         values::size_under(value, Key::Size),
         values::whole_under(1, u64::from(MAX_CALLERS), value, Key::Callers),
     ) else {
@@ -80,7 +78,7 @@ pub(crate) fn base_of(
     ensures rects { IfOk result (λ made. made ≡ form.base_of size (view value.now)) }
     ensures inside { IfOk result (λ made. IfSome made (All (λ entry. IsRectInside size entry.0))) }
 {
-    if !has_form(NEWEST_VERSION as u8, value, Form::Base) {
+    if !has_form(NEWEST_VERSION, value, Form::Base) {
         return Ok(None);
     }
     match values::items_under(value, Key::Base) {
@@ -112,7 +110,7 @@ pub(crate) fn post_of(version: u8, callers: u8, value: &Value) -> Option<CallerP
 pub(crate) fn end_of(value: &Value) -> Option<u64>
     ensures { result ≡ form.end_of (view value.now) }
 {
-    if has_form(NEWEST_VERSION as u8, value, Form::End) {
+    if has_form(NEWEST_VERSION, value, Form::End) {
         value.get(Key::End.as_str()).and_then(Value::as_u64)
     } else {
         None

@@ -187,7 +187,9 @@ fn push_obstruction_goal(text: &mut Bytes, id: u32, grow: Fixed) -> Result<(), N
     ensures values { OnOk result (IsGoalValue (goal_spec.Obstruction id grow)) }
 {
     let pieces = [
-        Piece::Bytes(b"{\"obstruction\":["),
+        Piece::Bytes(b"{\""),
+        Piece::Bytes(GoalKey::Obstruction.as_bytes()),
+        Piece::Bytes(b"\":["),
         Piece::Whole(u64::from(id)),
         Piece::Bytes(b","),
         Piece::Decimal(grow),

@@ -11,10 +11,9 @@ ghost use Rattle.script_text.specs.Causes.{first_version};
 ghost use Rattle.script_text.specs.Table as table;
 
 use crate::causes::{Key, Wanted};
-use crate::forms::NEWEST_VERSION;
 use crate::goals::GoalKey;
 use crate::parts::Rules;
-use crate::versions::{FIRST_WITH_MASKS, FIRST_WITH_MOVES};
+use crate::versions::{FIRST_WITH_MASKS, FIRST_WITH_MOVES, NEWEST_VERSION};
 use nav_types::Size;
 use nav_types::limits::{MAX_CALLERS, MAX_SIDE};
 use serde_json::{Map, Value};
@@ -78,7 +77,7 @@ pub(crate) fn widest() -> Rules
             w: MAX_SIDE,
             h: MAX_SIDE,
         },
-        version: NEWEST_VERSION as u8,
+        version: NEWEST_VERSION,
         callers: MAX_CALLERS,
     }
 }
@@ -124,7 +123,7 @@ impl Key {
         ensures { result ≡ table.wanted_of rules turn self }
     {
         match self {
-            Key::Version => whole(1, NEWEST_VERSION),
+            Key::Version => whole(1, u64::from(NEWEST_VERSION)),
             Key::Size => Wanted::Sides,
             Key::Callers => whole(1, u64::from(MAX_CALLERS)),
             Key::Classes => Wanted::Classes,

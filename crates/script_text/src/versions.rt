@@ -9,8 +9,11 @@ use posts::{Edit, MapSpec, Post, Posts, Request, TurnPosts};
 /// The first version with a mask in each add line.
 pub(crate) const FIRST_WITH_MASKS: u8 = 2;
 
-/// The first version with move lines and goals by obstruction, which is the newest.
+/// The first version with move lines and goals by obstruction.
 pub(crate) const FIRST_WITH_MOVES: u8 = 3;
+
+/// The newest version of a script.
+pub(crate) const NEWEST_VERSION: u8 = 3;
 
 /// Whether the map's version has a line for each of the posts (`HaveLines`): before version 2 the mask of an added
 /// obstruction is of every class, and before version 3 there is no move and no goal by obstruction.

@@ -3,11 +3,13 @@ ghost use Rattle.std.specs.Prelude.{◌≡◌, ◌++◌, ◌≤◌, map, All, Is
 ghost use Rattle.serde_json.specs.Written.{compact_text};
 ghost use Rattle.class_config.specs.Classes.{is_table};
 ghost use Rattle.nav_types.specs.declared.limits.TheConstants.{MAX_CALLERS};
-ghost use Rattle.script_text.specs.declared.forms.TheConstants.{NEWEST_VERSION};
+ghost use Rattle.script_text.specs.declared.versions.TheConstants.{NEWEST_VERSION};
 ghost use Rattle.script_text.specs.Canon as canon;
 
-use crate::canon::pieces::{Piece, push_comma, push_pieces};
-use crate::canon::post_lines::push_name;
+use crate::canon::form_lines::{LineValue, push_form};
+use crate::canon::pieces::{Piece, push_comma, push_name, push_pieces};
+use crate::table::Form;
+use crate::versions::NEWEST_VERSION;
 use class_config::{ClassName, ClassTable};
 use fixed_point::Fixed;
 use nav_types::{Bytes, Class, NoMemory, Rect};
@@ -17,31 +19,23 @@ use posts::MapSpec;
 const RECTANGLES_TO_A_LINE: usize = 65_536;
 
 /// Appends the map line, without its newline.
+#[tactic(auto, unfolding(crate::specs::Canon::map_json))]
 pub(crate) fn push_map(text: &mut Bytes, map: &MapSpec) -> Result<(), NoMemory>
     ensures text { OnOk result (text.new ≡ text.old ++ compact_text (canon.map_json map.now)) }
     ensures values { OnOk result ((1 ≤ map.now.version) × (map.now.version ≤ NEWEST_VERSION) × (1 ≤ map.now.callers)
         × (map.now.callers ≤ MAX_CALLERS) × IsTrue (is_table map.now.classes)) }
 {
-    let size = map.size();
-    let pieces = [
-        Piece::Bytes(b"{\"version\":"),
-        Piece::Whole(u64::from(map.version())),
-        Piece::Bytes(b",\"size\":["),
-        Piece::Whole(u64::from(size.w)),
-        Piece::Bytes(b","),
-        Piece::Whole(u64::from(size.h)),
-        Piece::Bytes(b"],\"callers\":"),
-        Piece::Whole(u64::from(map.callers())),
-        Piece::Bytes(b",\"classes\":"),
+    let values = [
+        LineValue::Whole(u64::from(map.version())),
+        LineValue::Sides(map.size()),
+        LineValue::Whole(u64::from(map.callers())),
+        LineValue::Classes(map.classes()),
     ];
-    push_pieces(text, &pieces)?;
-    push_classes(text, map.classes())?;
-    text.push(b'}')?;
-    Ok(())
+    push_form(text, NEWEST_VERSION, Form::Map, &values)
 }
 
 /// Appends the array of the classes.
-fn push_classes(text: &mut Bytes, classes: &ClassTable) -> Result<(), NoMemory>
+pub(crate) fn push_classes(text: &mut Bytes, classes: &ClassTable) -> Result<(), NoMemory>
     ensures text { OnOk result (text.new ≡ text.old
         ++ compact_text (canon.list_json (map canon.class_json classes.now))) }
     ensures values { OnOk result (IsTrue (is_table classes.now)) }
@@ -91,18 +85,21 @@ pub(crate) fn push_base_lines(text: &mut Bytes, rects: &[(Rect, u16)]) -> Result
 }
 
 /// Appends a base line, without its newline.
+#[tactic(auto, unfolding(crate::specs::Canon::base_json))]
 fn push_base(text: &mut Bytes, rects: &[(Rect, u16)]) -> Result<(), NoMemory>
     ensures text { OnOk result (text.new ≡ text.old ++ compact_text (canon.base_json rects.now)) }
     ensures values { OnOk result (All (λ entry. entry.1 ≤ 65535) rects.now) }
 {
-    text.extend(b"{\"base\":")?;
-    push_entries(text, rects)?;
-    text.push(b'}')?;
-    Ok(())
+    push_form(
+        text,
+        NEWEST_VERSION,
+        Form::Base,
+        &[LineValue::Rectangles(rects)],
+    )
 }
 
 /// Appends the array of the rectangles.
-fn push_entries(text: &mut Bytes, rects: &[(Rect, u16)]) -> Result<(), NoMemory>
+pub(crate) fn push_entries(text: &mut Bytes, rects: &[(Rect, u16)]) -> Result<(), NoMemory>
     ensures text { OnOk result (text.new ≡ text.old
         ++ compact_text (canon.list_json (map canon.entry_json rects.now))) }
     ensures values { OnOk result (All (λ entry. entry.1 ≤ 65535) rects.now) }

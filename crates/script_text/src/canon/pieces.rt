@@ -4,12 +4,14 @@ ghost use Rattle.std.specs.Int.{w32};
 ghost use Rattle.std.specs.List.{list_all};
 ghost use Rattle.serde_json.specs.Data.{string};
 ghost use Rattle.serde_json.specs.Written.{comma_if, compact_text};
+ghost use Rattle.class_config.specs.Forms.{is_class_name};
 ghost use Rattle.script_text.specs.Canon as canon;
 ghost use Rattle.script_text.specs.inner.Pieces.{IsPieceValue, piece_text};
 ghost use Rattle.script_text.specs.inner.Plain.{is_plain};
 ghost use Rattle.script_text.specs.Grammar.{rectangle_decimals};
 ghost use Rattle.script_text.specs.ReadsBack.{AreFixed};
 
+use class_config::ClassName;
 use fixed_point::{Fixed, Rectangle};
 use nav_types::{Bytes, NoMemory};
 
@@ -66,6 +68,14 @@ pub(crate) fn push_quoted(text: &mut Bytes, bytes: &[u8]) -> Result<(), NoMemory
     text.extend(bytes)?;
     text.push(b'"')?;
     Ok(())
+}
+
+/// Appends a class name as a string.
+pub(crate) fn push_name(text: &mut Bytes, name: &ClassName) -> Result<(), NoMemory>
+    ensures text { OnOk result (text.new ≡ text.old ++ compact_text (string name.now)) }
+    ensures values { OnOk result (IsTrue (is_class_name name.now)) }
+{
+    push_quoted(text, name.as_bytes())
 }
 
 /// Appends a fixed-point number's canonical text as a string.
