@@ -34,9 +34,11 @@ NUMBERS = {
 # ---- the table
 
 
-def said(name, of):
+def said(name, of, table=TABLE):
     """What the table says of each constructor of a type, by one clause for each."""
-    return dict(re.findall(rf"^{name}(?: \w+)* {of}\.(\w+) = (.*)$", read(TABLE), re.MULTILINE))
+    newest = re.search(r"NEWEST_VERSION: u8 = (\d+);", read("crates/script_text/src/versions.rt"))[1]
+    text = read(table).replace("NEWEST_VERSION", newest)
+    return dict(re.findall(rf"^{name}(?: \w+)* {of}\.(\w+) = (.*)$", text, re.MULTILINE))
 
 
 def quoted(texts):
@@ -87,8 +89,9 @@ def goal_versions():
 
 def goals():
     """What stands under the key of each goal, by its name and its key."""
-    under = said("goal_wanted", "goal")
-    return {name: (key, under[name]) for name, key in quoted(said("goal_key_text", "goal")).items()}
+    table = "crates/script_text/specs/Goals.antt"
+    under = said("goal_wanted", "key", table)
+    return {name: (key, under[name]) for name, key in quoted(said("goal_key_text", "key", table)).items()}
 
 
 def newest():

@@ -13,7 +13,7 @@ use Rattle.goal_shapes.specs.declared.goals.Goal.TheVariants.{Point, Circle, Not
 use Rattle.goal_shapes.specs.declared.goals.GoalSpec.{GoalSpec}
 use Rattle.goal_shapes.specs.declared.goals.GoalSpec.TheVariants.{Plain, Obstruction as ByObstruction}
 use Rattle.script_text.specs.Values.{obstruction_number, decimal, under, has_items, decimal_at, both, point_of, round_of, rectangle_of}
-use Rattle.script_text.specs.Goals.{key_of, goal_decimals, plain_goal, grown_of, obstruction_goal, goal_of, wrong_goal}
+use Rattle.script_text.specs.Goals.{goal_key_text, key_of, goal_decimals, plain_goal, grown_of, obstruction_goal, goal_of, wrong_goal}
 use Rattle.script_text.specs.Grammar.{IsObject, IsDecimal, IsArray, HasDecimals, rectangle_decimals, IsPlainGoal, IsGrownGoal, IsGoal}
 use Rattle.script_text.proofs.GrammarValues.{map_some, if_some, under_some, under_is, number-is, number-from, decimal-is, decimal-from, array_items-is, items_there, two_there}
 use Rattle.script_text.proofs.Members.{is_other, open_keys, open_one, has_keys-object, has_keys-other, stand-object}
@@ -32,7 +32,7 @@ use Rattle.script_text.specs.declared.causes.keys.Key.TheVariants.{OfGoal}
 use Rattle.script_text.specs.declared.causes.keys.Wanted.{Wanted}
 use Rattle.script_text.specs.declared.causes.keys.Wanted.TheVariants.{TwoDecimals, ThreeDecimals, SixDecimals, NumberAndDecimal}
 use Rattle.script_text.specs.declared.causes.wrong_values.FormField.{FormField}
-use Rattle.script_text.specs.Table.{goal_key_text, key_text}
+use Rattle.script_text.specs.Table.{key_text}
 use Rattle.script_text.specs.Causes.{is_wanted, IsWrongIn}
 use Rattle.script_text.specs.TrueCauses.{HasGrownGoal, IsTrueOf}
 use Rattle.script_text.specs.Canon.{whole_json, decimal_json, shape_json, decimals_json, goal_json, is_goal_of}

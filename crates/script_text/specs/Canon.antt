@@ -21,9 +21,9 @@ use Rattle.posts.specs.Maps.{Map}
 use Rattle.script_text.specs.declared.goals.GoalKey.TheVariants as goal_key
 use Rattle.script_text.specs.declared.table.Form.{Form}
 use Rattle.script_text.specs.declared.table.Form.TheVariants as form
-use Rattle.script_text.specs.declared.versions.TheConstants.{NEWEST_VERSION}
-use Rattle.script_text.specs.Table.{goal_key_text, texts_of}
-use Rattle.script_text.specs.Goals.{key_of, goal_decimals}
+use Rattle.script_text.specs.declared.versions.TheConstants.{FIRST_WITH_MASKS, FIRST_WITH_MOVES, NEWEST_VERSION}
+use Rattle.script_text.specs.Table.{texts_of}
+use Rattle.script_text.specs.Goals.{goal_key_text, key_of, goal_decimals}
 use Rattle.script_text.specs.Grammar.{shape_decimals}
 
 -- ---- values
@@ -140,13 +140,13 @@ canon_journal m turn posts = canon_callers m.version 0 posts ++ line (end_json t
 -- a goal by obstruction stands from version 3 on
 abbrev pub is_goal_of : ℕ → GoalSpec → Bool
 is_goal_of version (Plain goal) = true
-is_goal_of version (ByObstruction id grow) = nat_le 3 version
+is_goal_of version (ByObstruction id grow) = nat_le FIRST_WITH_MOVES version
 
 -- an add with a mask that is not of every class stands from version 2 on, a move from version 3 on
 abbrev pub is_post_of : ℕ → Post → Bool
-is_post_of version (Edits (Add id o)) = nat_le 2 version || o.mask == 65535
+is_post_of version (Edits (Add id o)) = nat_le FIRST_WITH_MASKS version || o.mask == 65535
 is_post_of version (Edits (Remove id)) = true
-is_post_of version (Edits (Move id x z)) = nat_le 3 version
+is_post_of version (Edits (Move id x z)) = nat_le FIRST_WITH_MOVES version
 is_post_of version (Asks (Path class x z goal)) = is_goal_of version goal
 is_post_of version (Asks (Region class x z)) = true
 

@@ -4,6 +4,7 @@ use Rattle.std.specs.Prelude.{ℕ, ◌&&◌, List, [], ◌∷◌, nat_le, nat_lt
 use Rattle.serde_json.specs.Data.{Data}
 use Rattle.nav_types.specs.declared.cells.Rect.{Rect}
 use Rattle.nav_types.specs.declared.cells.Size.{Size}
+use Rattle.nav_types.specs.declared.limits.TheConstants.{MAX_CALLERS}
 use Rattle.fixed_point.specs.Text.{some_if}
 use Rattle.class_config.specs.Classes.{classes_of}
 use Rattle.class_config.specs.declared.table.PassabilityClass.{PassabilityClass}
@@ -20,6 +21,7 @@ use Rattle.script_text.specs.declared.forms.CallerPost.{CallerPost}
 use Rattle.script_text.specs.declared.causes.keys.Key.TheVariants as key
 use Rattle.script_text.specs.declared.table.Form.{Form}
 use Rattle.script_text.specs.declared.table.Form.TheVariants as form
+use Rattle.script_text.specs.declared.versions.TheConstants.{FIRST_WITH_MASKS, NEWEST_VERSION}
 use Rattle.script_text.specs.Table.{key_text, has_form, form_of}
 use Rattle.script_text.specs.Goals.{goal_of}
 use Rattle.script_text.specs.Values.{whole, whole_in, whole_below, obstruction_number, class_name, under, array_items, has_items, whole_at, both, all_three, point_of, round_of, rectangle_of, size_of}
@@ -33,9 +35,9 @@ map_by _ _ _ _ = None
 
 -- the map of a map line; it has no base rectangle yet
 unfoldable pub map_of : Data → Option Map
-map_of d = if has_form 3 d form.Map
-    then map_by (under (whole_in 1 3) (key_text key.Version) d) (under size_of (key_text key.Size) d)
-    (under (whole_in 1 64) (key_text key.Callers) d) (under classes_of (key_text key.Classes) d)
+map_of d = if has_form NEWEST_VERSION d form.Map
+    then map_by (under (whole_in 1 NEWEST_VERSION) (key_text key.Version) d) (under size_of (key_text key.Size) d)
+    (under (whole_in 1 MAX_CALLERS) (key_text key.Callers) d) (under classes_of (key_text key.Classes) d)
     else None
 
 -- ---- base lines
@@ -63,7 +65,7 @@ each gives (item ∷ items) = option_and_then (λ first. option_map (λ others. 
 
 -- the rectangles of a base line, each with its mask, on a map of this size
 unfoldable pub base_of : Size → Data → Option (List (Rect × ℕ))
-base_of size d = if has_form 3 d form.Base
+base_of size d = if has_form NEWEST_VERSION d form.Base
     then option_and_then (each (entry_of size)) (under array_items (key_text key.Base) d)
     else None
 
@@ -71,7 +73,7 @@ base_of size d = if has_form 3 d form.Base
 
 -- the mask of an add line; without one it is of every class
 unfoldable pub mask_of : ℕ → Data → Option ℕ
-mask_of version d = if nat_le 2 version then under (whole_in 0 65535) (key_text key.Mask) d else Some 65535
+mask_of version d = if nat_le FIRST_WITH_MASKS version then under (whole_in 0 65535) (key_text key.Mask) d else Some 65535
 
 -- the shapes of add lines
 abbrev pub unit_of : Data → Option Shape
@@ -119,4 +121,4 @@ post_of version callers d = option_map (λ parts. record { caller = parts.0; pos
 
 -- the number of an end line
 unfoldable pub end_of : Data → Option ℕ
-end_of d = if has_form 3 d form.End then under whole (key_text key.End) d else None
+end_of d = if has_form NEWEST_VERSION d form.End then under whole (key_text key.End) d else None

@@ -13,10 +13,30 @@ use Rattle.script_text.specs.declared.goals.GoalKey.TheVariants as key
 use Rattle.script_text.specs.declared.causes.Cause.{Cause}
 use Rattle.script_text.specs.declared.causes.Cause.TheVariants.{WrongValue, LaterVersion}
 use Rattle.script_text.specs.declared.causes.keys.Key.TheVariants.{OfGoal}
+use Rattle.script_text.specs.declared.causes.keys.Wanted.{Wanted}
 use Rattle.script_text.specs.declared.causes.keys.Wanted.TheVariants.{TwoDecimals, ThreeDecimals, SixDecimals, NumberAndDecimal}
 use Rattle.script_text.specs.declared.causes.wrong_values.FormField.{FormField}
+use Rattle.script_text.specs.declared.versions.TheConstants.{FIRST_WITH_MOVES}
 use Rattle.script_text.specs.Grammar.{rectangle_decimals}
 use Rattle.script_text.specs.Values.{obstruction_number, under, has_items, decimal_at, both, point_of, round_of, rectangle_of}
+
+-- the key of a goal, which is its only one, as it stands in a line
+abbrev pub goal_key_text : GoalKey → List ℕ
+goal_key_text key.Point = codes "point"
+goal_key_text key.Circle = codes "circle"
+goal_key_text key.NotCircle = codes "not-circle"
+goal_key_text key.Square = codes "square"
+goal_key_text key.NotSquare = codes "not-square"
+goal_key_text key.Obstruction = codes "obstruction"
+
+-- what must stand under the key of a goal
+abbrev pub goal_wanted : GoalKey → Wanted
+goal_wanted key.Point = TwoDecimals
+goal_wanted key.Circle = ThreeDecimals
+goal_wanted key.NotCircle = ThreeDecimals
+goal_wanted key.Square = SixDecimals
+goal_wanted key.NotSquare = SixDecimals
+goal_wanted key.Obstruction = NumberAndDecimal
 
 -- the keys of goals, in words
 abbrev pub goal_keys_text : List ℕ
@@ -55,7 +75,7 @@ grown_of d = if has_items 2 d
 
 -- a goal that is an obstruction, under version 3 only
 unfoldable pub obstruction_goal : ℕ → Data → Option GoalSpec
-obstruction_goal version d = if nat_le 3 version && has_keys (codes "obstruction" ∷ []) d then under grown_of (codes "obstruction") d else None
+obstruction_goal version d = if nat_le FIRST_WITH_MOVES version && has_keys (codes "obstruction" ∷ []) d then under grown_of (codes "obstruction") d else None
 
 -- the goal of a path line: an object with exactly one key
 unfoldable pub goal_of : ℕ → Data → Option GoalSpec
@@ -69,5 +89,5 @@ wrong_goal version f g = if has_keys (codes "point" ∷ []) g then WrongValue (O
     else (if has_keys (codes "square" ∷ []) g then WrongValue (OfGoal key.Square) SixDecimals
     else (if has_keys (codes "not-square" ∷ []) g then WrongValue (OfGoal key.NotSquare) SixDecimals
     else (if has_keys (codes "obstruction" ∷ []) g
-    then (if nat_lt version 3 then LaterVersion 3 else WrongValue (OfGoal key.Obstruction) NumberAndDecimal)
+    then (if nat_lt version FIRST_WITH_MOVES then LaterVersion FIRST_WITH_MOVES else WrongValue (OfGoal key.Obstruction) NumberAndDecimal)
     else WrongValue f.key f.wanted)))))

@@ -1,33 +1,25 @@
 -- The table of the forms of lines: the keys of each form, in their order, the versions that have it, and what must stand
--- under each key. What is read of a line, the cause of a bad one and the canonical text go by it.
+-- under each key. What is read of a line, the cause of a bad one and the canonical text go by it. The keys of goals stand in
+-- `Goals.antt`.
 use Rattle.std.specs.Prelude.{ℕ, ◌&&◌, List, [], ◌∷◌, map, nat_le, Bool, true, Option, if◌then◌else◌, codes}
 use Rattle.std.specs.List.{find}
 use Rattle.std.proofs.Common.{refl}
 use Rattle.std.proofs.lemmas.Bool.{leb-true}
 use Rattle.serde_json.specs.Data.{Data}
-use Rattle.nav_types.specs.declared.limits.TheConstants.{MAX_SIDE}
+use Rattle.nav_types.specs.declared.limits.TheConstants.{MAX_CALLERS, MAX_SIDE}
 use Rattle.nav_types.specs.Side.{IsSide}
 use Rattle.class_config.specs.Forms.{has_keys}
-use Rattle.script_text.specs.declared.goals.GoalKey.{GoalKey}
-use Rattle.script_text.specs.declared.goals.GoalKey.TheVariants as goal
 use Rattle.script_text.specs.declared.causes.keys.Key.{Key}
 use Rattle.script_text.specs.declared.causes.keys.Key.TheVariants as key
 use Rattle.script_text.specs.declared.causes.keys.Wanted.{Wanted}
-use Rattle.script_text.specs.declared.causes.keys.Wanted.TheVariants.{Whole, Caller, Turn, Sides, Classes, Rectangles, ClassName, TwoDecimals, ThreeDecimals, SixDecimals, NumberAndDecimal, Goal}
+use Rattle.script_text.specs.declared.causes.keys.Wanted.TheVariants.{Whole, Caller, Turn, Sides, Classes, Rectangles, ClassName, TwoDecimals, ThreeDecimals, SixDecimals, Goal}
 use Rattle.script_text.specs.declared.table.Form.{Form}
 use Rattle.script_text.specs.declared.table.Form.TheVariants as form
 use Rattle.script_text.specs.declared.parts.Rules.{Rules}
+use Rattle.script_text.specs.declared.versions.TheConstants.{NEWEST_VERSION}
+use Rattle.script_text.specs.Goals.{goal_key_text, goal_wanted}
 
 -- ---- keys
-
--- the key of a goal, which is its only one, as it stands in a line
-abbrev pub goal_key_text : GoalKey → List ℕ
-goal_key_text goal.Point = codes "point"
-goal_key_text goal.Circle = codes "circle"
-goal_key_text goal.NotCircle = codes "not-circle"
-goal_key_text goal.Square = codes "square"
-goal_key_text goal.NotSquare = codes "not-square"
-goal_key_text goal.Obstruction = codes "obstruction"
 
 -- a key as it stands in a line
 abbrev pub key_text : Key → List ℕ
@@ -105,18 +97,9 @@ form_of version d = find (has_form version d) forms
 abbrev pub obstruction_wanted : Wanted
 obstruction_wanted = Whole 0 4294967295
 
--- what must stand under the key of a goal
-abbrev pub goal_wanted : GoalKey → Wanted
-goal_wanted goal.Point = TwoDecimals
-goal_wanted goal.Circle = ThreeDecimals
-goal_wanted goal.NotCircle = ThreeDecimals
-goal_wanted goal.Square = SixDecimals
-goal_wanted goal.NotSquare = SixDecimals
-goal_wanted goal.Obstruction = NumberAndDecimal
-
 -- what must stand under a key in a script of these rules, among the lines of the turn of this number
 abbrev pub wanted_of : Rules → ℕ → Key → Wanted
-wanted_of rules turn key.Version = Whole 1 3
+wanted_of rules turn key.Version = Whole 1 NEWEST_VERSION
 wanted_of rules turn key.Size = Sides
 wanted_of rules turn key.Callers = Whole 1 64
 wanted_of rules turn key.Classes = Classes
@@ -143,4 +126,4 @@ greatest_side = record { some = leb-true 1 MAX_SIDE refl; few = leb-true MAX_SID
 
 -- the rules before the map line is read: those of the newest version and of the largest map
 abbrev pub widest : Rules
-widest = record { size = record { w = MAX_SIDE; h = MAX_SIDE; wide = greatest_side; high = greatest_side }; version = 3; callers = 64 }
+widest = record { size = record { w = MAX_SIDE; h = MAX_SIDE; wide = greatest_side; high = greatest_side }; version = NEWEST_VERSION; callers = MAX_CALLERS }

@@ -5,7 +5,7 @@ ghost use Rattle.serde_json.specs.Written.{compact_text};
 ghost use Rattle.goal_shapes.specs.declared.goals.GoalSpec.TheVariants as goal_spec;
 ghost use Rattle.script_text.specs.Canon.{goal_json, shape_json};
 ghost use Rattle.script_text.specs.Goals as goals;
-ghost use Rattle.script_text.specs.Table as table;
+ghost use Rattle.script_text.specs.Table.{key_text};
 ghost use Rattle.script_text.specs.ReadsBack.{AreFixed, IsGoalValue};
 ghost use Rattle.script_text.specs.Values.{under};
 
@@ -36,7 +36,7 @@ pub enum GoalKey {
 impl GoalKey {
     /// The key as it stands in a line.
     pub fn as_str(self) -> &'static str
-        ensures { result.now ≡ table.goal_key_text self }
+        ensures { result.now ≡ goals.goal_key_text self }
     {
         match self {
             GoalKey::Point => "point",
@@ -48,9 +48,21 @@ impl GoalKey {
         }
     }
 
+    /// What must stand under it.
+    pub(crate) fn wanted(self) -> Wanted
+        ensures { result ≡ goals.goal_wanted self }
+    {
+        match self {
+            GoalKey::Point => Wanted::TwoDecimals,
+            GoalKey::Circle | GoalKey::NotCircle => Wanted::ThreeDecimals,
+            GoalKey::Square | GoalKey::NotSquare => Wanted::SixDecimals,
+            GoalKey::Obstruction => Wanted::NumberAndDecimal,
+        }
+    }
+
     /// Its bytes.
     fn as_bytes(self) -> &'static [u8]
-        ensures { result.now ≡ table.goal_key_text self }
+        ensures { result.now ≡ goals.goal_key_text self }
     {
         self.as_str().as_bytes()
     }
@@ -76,7 +88,7 @@ pub(crate) fn goal_of(version: u8, value: &Value) -> Option<GoalSpec>
 
 /// The goal under a key.
 pub(crate) fn goal_under(version: u8, value: &Value, key: Key) -> Option<GoalSpec>
-    ensures { result ≡ under (goals.goal_of version) (table.key_text key) (view value.now) }
+    ensures { result ≡ under (goals.goal_of version) (key_text key) (view value.now) }
 {
     match value.get(key.as_str()) {
         Some(found) => goal_of(version, found),
@@ -140,7 +152,7 @@ fn grown_of(value: &Value) -> Option<GoalSpec>
 
 /// The obstruction number and the decimal of the array under a key.
 pub(crate) fn grown_under(value: &Value, key: Key) -> Option<GoalSpec>
-    ensures { result ≡ under goals.grown_of (table.key_text key) (view value.now) }
+    ensures { result ≡ under goals.grown_of (key_text key) (view value.now) }
 {
     value.get(key.as_str()).and_then(grown_of)
 }
@@ -216,7 +228,7 @@ fn push_plain_goal(text: &mut Bytes, goal: Goal) -> Result<(), NoMemory>
 
 /// Appends an object of this key and of fixed-point numbers.
 fn push_shape(text: &mut Bytes, key: GoalKey, numbers: &[Fixed]) -> Result<(), NoMemory>
-    ensures text { OnOk result (text.new ≡ text.old ++ compact_text (shape_json (table.goal_key_text key) numbers.now)) }
+    ensures text { OnOk result (text.new ≡ text.old ++ compact_text (shape_json (goals.goal_key_text key) numbers.now)) }
     ensures values { OnOk result (AreFixed numbers.now) }
 {
     let pieces = [

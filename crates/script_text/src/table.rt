@@ -1,5 +1,6 @@
 //! The table of the forms of lines: the keys of each form, in their order, the versions that have it, and what must stand
-//! under each key. What is read of a line, the cause of a bad one and the canonical text go by it.
+//! under each key. What is read of a line, the cause of a bad one and the canonical text go by it. The keys of goals stand in
+//! `goals`.
 ghost use Rattle.std.specs.Prelude.{◌≡◌, bytes_eq, is_some, map, string_bytes, string_cmp};
 ghost use Rattle.std.specs.BTreeMap.{IsOrdered};
 ghost use Rattle.std.specs.List.{find, list_all, list_any};
@@ -11,7 +12,6 @@ ghost use Rattle.script_text.specs.Causes.{first_version};
 ghost use Rattle.script_text.specs.Table as table;
 
 use crate::causes::{Key, Wanted};
-use crate::goals::GoalKey;
 use crate::parts::Rules;
 use crate::versions::{FIRST_WITH_MASKS, FIRST_WITH_MOVES, NEWEST_VERSION};
 use nav_types::Size;
@@ -142,20 +142,6 @@ impl Key {
             },
             Key::End => Wanted::Turn { number: turn },
             Key::OfGoal(goal) => goal.wanted(),
-        }
-    }
-}
-
-impl GoalKey {
-    /// What must stand under it.
-    pub(crate) fn wanted(self) -> Wanted
-        ensures { result ≡ table.goal_wanted self }
-    {
-        match self {
-            GoalKey::Point => Wanted::TwoDecimals,
-            GoalKey::Circle | GoalKey::NotCircle => Wanted::ThreeDecimals,
-            GoalKey::Square | GoalKey::NotSquare => Wanted::SixDecimals,
-            GoalKey::Obstruction => Wanted::NumberAndDecimal,
         }
     }
 }
