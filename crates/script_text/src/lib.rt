@@ -8,6 +8,15 @@
 //! [`ScriptReader`] reads such pieces from a source and pushes them. What both say is what `specs/Script.antt` says of whole
 //! inputs. `write_map` and `write_journal` write the canonical script, which reads back as what it was written from. A bad
 //! line has a [`Cause`] in plain words. Nothing here answers a post.
+//!
+//! ```text
+//!    the table of forms       table (forms, keys, versions, what stands under a key), causes::keys (their texts), goals
+//!    what a line says         forms, forms::{post_lines, bases, values}, goals, parts, versions
+//!    why a line is bad        causes, causes::{strange_keys, wrong_values, mistakes}, nesting, faults
+//!    lines to items           progress, items, pushed (bytes that are given), reader (bytes of a source)
+//!    the canonical text       canon, canon::{form_lines, maps, post_lines, pieces}
+//!    laws                     laws
+//! ```
 #![tactic(auto)]
 
 mod canon;
