@@ -1,4 +1,4 @@
-use Rattle.std.proofs.Common.{◌≡◌, ◌≤◌, List, length, min, subst}
+use Rattle.std.proofs.Common.{List, subst}
 use Rattle.script_text.specs.declared.causes.keys.Key.{Key}
 use Rattle.script_text.specs.inner.LineValues.{AreLineValues}
 use Rattle.script_text.proofs.FormTexts.{line-ended, members-ended}
