@@ -5,6 +5,7 @@ use Rattle.script_text.specs.declared.faults.ScriptFault.{ScriptFault}
 use Rattle.script_text.specs.declared.faults.ScriptFault.TheVariants as met
 use Rattle.script_text.specs.declared.items.ScriptItem.{ScriptItem}
 use Rattle.script_text.specs.Script.{Item, beginning, Stop, whole_input, Walk, arrived, chain, finish, reading}
+use Rattle.script_text.specs.Causes.{next_cause, stop_cause}
 use Rattle.script_text.specs.Reader.{Held, stuck_after}
 use Rattle.script_text.specs.Pushed.{item_of, EndTold}
 use Rattle.match_play.specs.declared.states.ScriptStop.{ScriptStop}
@@ -15,30 +16,36 @@ use Rattle.match_play.specs.declared.states.MatchState.{MatchState}
 use Rattle.match_play.specs.declared.faults.MatchFault.{MatchFault}
 use Rattle.match_play.specs.declared.faults.MatchFault.TheVariants as fault
 use Rattle.match_play.specs.Texts.{unsaid, Gives, IsText, stop_text, ends_text, IsOut}
-use Rattle.match_play.specs.Playing.{said_of, stop_of, ReadsItems, StopsBehind, HasRead, told_stop, IsTold, IsOver, HasPlayed, IsWholeText, FinishTold, Plays, FinishPlays}
+use Rattle.match_play.specs.Playing.{said_of, stop_of, ReadsItems, GoesOnBehind, HasCause, StopsSo, StopsBehind, HasRead, told_stop, IsTold, IsOver, HasPlayed, IsWholeText, FinishTold, Plays, FinishPlays}
 use Rattle.match_play.specs.inner.Fitting.{TellsStop, fault_of, stop_in}
-use Rattle.match_play.proofs.Playing.{reading_used, with_script, with_ahead, plays_none}
+use Rattle.match_play.proofs.Playing.{reading_used, cause_used, with_script, with_ahead, plays_none, stops_same}
 
 -- ---- the script ends
 
 -- what was read goes on with what is held
 items_ended : (ended : Bool) (held : Held) (fed : List ℕ) (items : List Item) → ReadsItems ended held fed items → ReadsItems true held fed items
 items_ended true held fed items read = read
-items_ended false held fed items used =
-    ap (λ (bytes : List ℕ). reading bytes beginning) (sym (append-nil fed))
-    ∙ reading_used fed [] held items used
-    ∙ ap (λ (bytes : List ℕ). chain (arrived items held.place) (λ q. reading bytes q)) (append-nil held.bytes)
+items_ended false held fed items used = record {
+  same =
+      ap (λ (bytes : List ℕ). reading bytes beginning) (sym (append-nil fed))
+      ∙ reading_used fed [] held items used
+      ∙ ap (λ (bytes : List ℕ). chain (arrived items held.place) (λ q. reading bytes q)) (append-nil held.bytes);
+  cause =
+      ap (λ (bytes : List ℕ). stop_cause bytes beginning) (sym (append-nil fed))
+      ∙ cause_used fed [] held items used
+      ∙ ap (λ (bytes : List ℕ). stop_cause bytes held.place) (append-nil held.bytes);
+}
 
-stop_ended : (ended : Bool) (fed : List ℕ) (items : List Item) (stop : Stop) → StopsBehind ended fed items stop → StopsBehind true fed items stop
-stop_ended true fed items stop stuck = stuck
-stop_ended false fed items stop stuck = ap (λ (bytes : List ℕ). reading bytes beginning) (sym (append-nil fed)) ∙ stuck []
+stop_ended : (ended : Bool) (held : Held) (fed : List ℕ) (items : List Item) (stop : Stop) → StopsBehind ended held fed items stop → StopsBehind true held fed items stop
+stop_ended true held fed items stop stuck = stuck
+stop_ended false held fed items stop stuck = subst (λ (bytes : List ℕ). StopsSo held bytes items stop) (append-nil fed) (stuck [])
 
 read_ended : (ended : Bool) (held : Held) (fed : List ℕ) (items : List Item) (next : NextItem) → HasRead ended held fed items next → HasRead true held fed items next
 read_ended ended held fed items next_item.Lines read = items_ended ended held fed items read
 read_ended ended held fed items (next_item.Item item) read = items_ended ended held fed (items ++ item_of item ∷ []) read
-read_ended ended held fed items (next_item.Stop stop) read = stop_ended ended fed items (stop_of stop) read
-read_ended ended held fed items (next_item.Nothing stop) read = stop_ended ended fed items (stop_of stop) read
-read_ended ended held fed items next_item.Whole read = stop_ended ended fed items whole_input read
+read_ended ended held fed items (next_item.Stop stop) read = stop_ended ended held fed items (stop_of stop) read
+read_ended ended held fed items (next_item.Nothing stop) read = stop_ended ended held fed items (stop_of stop) read
+read_ended ended held fed items next_item.Whole read = stop_ended ended held fed items whole_input read
 
 -- a step that takes no byte and tells nothing
 quiet : (a b : MatchState) → b.waiting ≡ a.waiting → b.report ≡ a.report → ((fed told : List ℕ) → HasPlayed a fed told → HasPlayed b fed told) → Plays a b [] []
@@ -59,7 +66,7 @@ plays_ended a = quiet a (record a { ended = true }) refl refl (λ fed told h.
 
 -- the items that were told, and what the reading goes on with
 rest_before : (a : MatchState) (fed : List ℕ) (items : List Item) → IsTrue a.ended → a.next_item ≡ next_item.Lines → HasRead a.ended a.script fed items a.next_item
-    → reading fed beginning ≡ chain (arrived items a.script.place) (λ q. reading a.script.bytes q)
+    → GoesOnBehind a.script fed items
 rest_before a fed items ended at read =
     let lines : ReadsItems a.ended a.script fed items = subst (HasRead a.ended a.script fed items) at read in
     subst (λ (e : Bool). ReadsItems e a.script fed items) ended lines
@@ -74,11 +81,15 @@ pub rest_item : (a : MatchState) (new : Held) (item : ScriptItem) → IsTrue a.e
 rest_item a new item ended at e = quiet a (with_ahead a new (next_item.Item item)) refl refl (λ fed told h.
     let next = item_of item in
     let behind = finish new.place in
-    let read : reading fed beginning ≡ chain (arrived (h.items ++ next ∷ []) new.place) (λ q. reading new.bytes q) =
-    rest_before a fed h.items ended at h.read
+    let before = rest_before a fed h.items ended at h.read in
+    let same : reading fed beginning ≡ chain (arrived (h.items ++ next ∷ []) new.place) (λ q. reading new.bytes q) =
+    before.same
     ∙ ap (λ (w : Walk). chain (arrived h.items a.script.place) (λ q. w)) e.same
     ∙ ap (λ (l : List Item). record { items = l; ends = behind.ends }) (sym (append_assoc h.items (next ∷ []) behind.items))
     ∙ ap (λ (bytes : List ℕ). chain (arrived (h.items ++ next ∷ []) new.place) (λ q. reading bytes q)) (sym e.nothing) in
+    let cause : stop_cause fed beginning ≡ stop_cause new.bytes new.place =
+    before.cause ∙ e.cause ∙ ap (λ (bytes : List ℕ). next_cause new.place bytes) e.nothing ∙ ap (λ (bytes : List ℕ). stop_cause bytes new.place) (sym e.nothing) in
+    let read : GoesOnBehind new fed (h.items ++ next ∷ []) = record { same = same; cause = cause } in
     record {
       items = h.items;
       text = h.text;
@@ -88,20 +99,22 @@ rest_item a new item ended at e = quiet a (with_ahead a new (next_item.Item item
     })
 
 -- the reading stops there
-stuck_rest : (a : MatchState) (fed : List ℕ) (items : List Item) (stop : Stop) → IsTrue a.ended → a.next_item ≡ next_item.Lines → HasRead a.ended a.script fed items a.next_item
-    → reading a.script.bytes a.script.place ≡ stuck_after [] stop → StopsBehind a.ended fed items stop
-stuck_rest a fed items stop ended at read is =
+stuck_rest : (a : MatchState) (new : Held) (fed : List ℕ) (items : List Item) (stop : Stop) → IsTrue a.ended → a.next_item ≡ next_item.Lines
+    → HasRead a.ended a.script fed items a.next_item → reading a.script.bytes a.script.place ≡ stuck_after [] stop
+    → (stop_cause fed beginning ≡ stop_cause a.script.bytes a.script.place → HasCause stop new fed) → StopsBehind a.ended new fed items stop
+stuck_rest a new fed items stop ended at read is why =
+    let before = rest_before a fed items ended at read in
     let stuck : reading fed beginning ≡ stuck_after items stop =
-    rest_before a fed items ended at read
+    before.same
     ∙ ap (λ (w : Walk). chain (arrived items a.script.place) (λ q. w)) is
     ∙ ap (λ (l : List Item). stuck_after l stop) (append-nil items) in
-    subst (λ (x : Bool). StopsBehind x fed items stop) (sym ended) stuck
+    subst (λ (x : Bool). StopsBehind x new fed items stop) (sym ended) (record { stuck = stuck; cause = why before.cause })
 
 pub rest_whole : (a : MatchState) (new : Held) → IsTrue a.ended → a.next_item ≡ next_item.Lines → EndTold a.script new (Ok None) → Plays a (with_ahead a new next_item.Whole) [] []
 rest_whole a new ended at (is, none) = quiet a (with_ahead a new next_item.Whole) refl refl (λ fed told h. record {
   items = h.items;
   text = h.text;
-  read = stuck_rest a fed h.items whole_input ended at h.read is;
+  read = stuck_rest a new fed h.items whole_input ended at h.read is (λ same. tt);
   gives = h.gives;
   all = told_lines a fed told at h;
 })
@@ -112,24 +125,27 @@ refused_by : (old new : Held) (met : ScriptFault) (stop : ScriptStop) → EndTol
 refused_by old new (met.BadLine n) stop told is =
     let same : BadLine n ≡ stop = stops_same (BadLine n) stop is in
     subst (λ (s : ScriptStop). reading old.bytes old.place ≡ stuck_after [] (stop_of s)) same told.stuck
-  where
-    stops_same : (a b : ScriptStop) → Some a ≡ Some b → a ≡ b
-    stops_same a b is = cc
 refused_by old new (met.TooLong n) stop told is =
     let same : TooLong n ≡ stop = stops_same (TooLong n) stop is in
     subst (λ (s : ScriptStop). reading old.bytes old.place ≡ stuck_after [] (stop_of s)) same told
-  where
-    stops_same : (a b : ScriptStop) → Some a ≡ Some b → a ≡ b
-    stops_same a b is = cc
 refused_by old new met.ReadFault stop told is = absurd told
 refused_by old new met.NoMemory stop told is = absurd (cc)
+
+caused_by : (old new : Held) (fed : List ℕ) (met : ScriptFault) (stop : ScriptStop) → EndTold old new (Err met) → stop_in met ≡ Some stop
+    → stop_cause fed beginning ≡ stop_cause old.bytes old.place → HasCause (stop_of stop) new fed
+caused_by old new fed (met.BadLine n) stop told is same =
+    subst (λ (s : ScriptStop). HasCause (stop_of s) new fed) (stops_same (BadLine n) stop is) (same ∙ told.cause)
+caused_by old new fed (met.TooLong n) stop told is same =
+    subst (λ (s : ScriptStop). HasCause (stop_of s) new fed) (stops_same (TooLong n) stop is) tt
+caused_by old new fed met.ReadFault stop told is same = absurd told
+caused_by old new fed met.NoMemory stop told is same = absurd (cc)
 
 pub rest_stop : (a : MatchState) (new : Held) (met : ScriptFault) (stop : ScriptStop) → IsTrue a.ended → a.next_item ≡ next_item.Lines → EndTold a.script new (Err met)
     → stop_in met ≡ Some stop → Plays a (with_ahead a new (next_item.Stop stop)) [] []
 rest_stop a new met stop ended at told is = quiet a (with_ahead a new (next_item.Stop stop)) refl refl (λ fed said h. record {
   items = h.items;
   text = h.text;
-  read = stuck_rest a fed h.items (stop_of stop) ended at h.read (refused_by a.script new met stop told is);
+  read = stuck_rest a new fed h.items (stop_of stop) ended at h.read (refused_by a.script new met stop told is) (caused_by a.script new fed met stop told is);
   gives = h.gives;
   all = told_lines a fed said at h;
 })
@@ -145,8 +161,11 @@ pub rest_kept : (a : MatchState) (new : Held) (met : ScriptFault) → IsTrue a.e
     → Plays a (with_script a new) [] []
 rest_kept a new met ended at told none = quiet a (with_script a new) refl refl (λ fed said h.
     let kept = kept_held a.script new met told none in
-    let read : reading fed beginning ≡ chain (arrived h.items new.place) (λ q. reading new.bytes q) =
-    rest_before a fed h.items ended at h.read ∙ (λ i. chain (arrived h.items (sym kept.0 i)) (λ q. reading (sym kept.1 i) q)) in
+    let before = rest_before a fed h.items ended at h.read in
+    let read : GoesOnBehind new fed h.items = record {
+      same = before.same ∙ (λ i. chain (arrived h.items (sym kept.0 i)) (λ q. reading (sym kept.1 i) q));
+      cause = before.cause ∙ (λ i. stop_cause (sym kept.1 i) (sym kept.0 i));
+    } in
     record {
       items = h.items;
       text = h.text;
@@ -189,11 +208,11 @@ out_of m stop fed told items text read gives all = record {
 
 -- of a script that has ended by a stop, or whole
 over_text : (m : MatchState) (stop : Stop) (next : NextItem) (fed told : List ℕ) → IsTrue m.ended → m.next_item ≡ next → told_stop next ≡ stop_text stop
-    → ((items : List Item) → HasRead m.ended m.script fed items next → StopsBehind m.ended fed items stop) → HasPlayed m fed told → IsWholeText m.report stop fed told
+    → ((items : List Item) → HasRead m.ended m.script fed items next → StopsBehind m.ended m.script fed items stop) → HasPlayed m fed told → IsWholeText m.report stop fed told
 over_text m stop next fed told ended at says stops h =
-    let stuck : reading fed beginning ≡ stuck_after h.items stop =
-    subst (λ (x : Bool). StopsBehind x fed h.items stop) ended (stops h.items (subst (HasRead m.ended m.script fed h.items) at h.read)) in
-    out_of m stop fed told h.items h.text stuck h.gives (h.all ∙ ap (λ (n : NextItem). h.text ++ told_stop n) at ∙ ap (λ (l : List ℕ). h.text ++ l) says)
+    let so : StopsSo m.script fed h.items stop =
+    subst (λ (x : Bool). StopsBehind x m.script fed h.items stop) ended (stops h.items (subst (HasRead m.ended m.script fed h.items) at h.read)) in
+    out_of m stop fed told h.items h.text so.stuck h.gives (h.all ∙ ap (λ (n : NextItem). h.text ++ told_stop n) at ∙ ap (λ (l : List ℕ). h.text ++ l) says)
 
 told_by : (report : Report) (stop : ScriptStop) (fed told : List ℕ) → IsWholeText report (stop_of stop) fed told → FinishTold report (Err (fault_of stop)) fed told
 told_by report (BadLine n) fed told is = is

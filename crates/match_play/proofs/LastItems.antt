@@ -206,8 +206,8 @@ lines_ended false g held (opens, fits) = record { going = opens.going; few = λ 
 pub fits_ended : (ended : Bool) (g : MatchProgress) (held : Held) (next : NextItem) → FitsAhead ended g held next → FitsAhead true g held next
 fits_ended ended g held next_item.Lines fits = lines_ended ended g held fits
 fits_ended ended g held (next_item.Item i) (fits, then) = (fits, λ next is. lines_ended ended next held (then next is))
-fits_ended ended g held (next_item.Stop stop) fits = tt
-fits_ended ended g held (next_item.Nothing stop) fits = tt
+fits_ended ended g held (next_item.Stop stop) fits = fits
+fits_ended ended g held (next_item.Nothing stop) fits = fits
 fits_ended ended g held next_item.Whole fits = refl
 
 -- what fits where lines come next

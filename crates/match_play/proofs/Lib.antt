@@ -5,3 +5,4 @@ pub mod LastItems
 pub mod Items
 pub mod Fits
 pub mod Posting
+pub mod Stopping

@@ -1,13 +1,15 @@
 -- How a match goes from what it was fed with to what it tells.
-use Rattle.std.proofs.Common.{◌≡◌, ℕ, ◌+◌, ◌↔◌, List, [], ◌∷◌, ◌++◌, length, All, Bool, true, false, IsFalse, IsTrue, Some, None, Result, Ok, Err, inl, inr, refl, sym, ap, subst, ◌∙◌, append_assoc, append-nil}
+use Rattle.std.proofs.Common.{◌≡◌, ℕ, ◌+◌, ◌↔◌, List, [], ◌∷◌, ◌++◌, length, All, Bool, true, false, IsFalse, IsTrue, Option, Some, None, Result, Ok, Err, inl, inr, refl, sym, ap, subst, ◌∙◌, append_assoc, append-nil}
 use Rattle.std.proofs.lemmas.List.Elements.{All-head, All-tail}
 use Rattle.posts.specs.declared.notes.Report.{Report}
-use Rattle.input_lines.specs.Lines.{full_lines, unlines, IsPlain}
-use Rattle.input_lines.proofs.LineLists.{unlines-line, full_lines-behind}
+use Rattle.input_lines.specs.Lines.{full_lines, tail_of, unlines, IsPlain}
+use Rattle.input_lines.proofs.LineLists.{unlines-line, full_lines-behind, full_lines-line, tail_of-line}
 use Rattle.script_text.specs.declared.faults.ScriptFault.{ScriptFault}
 use Rattle.script_text.specs.declared.faults.ScriptFault.TheVariants as met
 use Rattle.script_text.specs.declared.items.ScriptItem.{ScriptItem}
-use Rattle.script_text.specs.Script.{Item, Place, beginning, Stop, Walk, arrived, chain, accept, walk, reading}
+use Rattle.script_text.specs.Script.{Item, Place, beginning, Stop, Ends, at_place, stuck_by, Walk, arrived, chain, chain_from, accept, walk, reading}
+use Rattle.script_text.specs.declared.causes.Cause.{Cause}
+use Rattle.script_text.specs.Causes.{cause, cause_from, line_cause, lines_cause, last_cause, stop_cause}
 use Rattle.script_text.specs.Reader.{Held, unread, UsesLines, GoesOn, stuck_after}
 use Rattle.script_text.specs.Pushed.{item_of, PushTold}
 use Rattle.script_text.proofs.ReadCalls.{uses_then}
@@ -22,7 +24,7 @@ use Rattle.match_play.specs.declared.states.MatchState.{MatchState}
 use Rattle.match_play.specs.declared.faults.MatchFault.{MatchFault}
 use Rattle.match_play.specs.declared.faults.MatchFault.TheVariants as fault
 use Rattle.match_play.specs.Texts.{Said, unsaid, Says, Gives, IsText, stop_text, ends_text}
-use Rattle.match_play.specs.Playing.{said_of, stop_of, ReadsItems, StopsBehind, HasRead, told_stop, IsOver, HasPlayed, IsLinesText, IsStopText, FeedTold, Plays, FeedPlays}
+use Rattle.match_play.specs.Playing.{said_of, stop_of, ReadsItems, HasCause, StopsSo, StopsBehind, HasRead, told_stop, IsOver, HasPlayed, IsLinesText, IsStopText, FeedTold, Plays, FeedPlays}
 use Rattle.match_play.specs.Grounds.{Tells}
 use Rattle.match_play.specs.inner.Fitting.{IsStopped, TellsStop, fault_of, stop_in}
 
@@ -73,6 +75,36 @@ reading_used fed rest held items u =
     ap (λ (bytes : List ℕ). reading bytes beginning) (ap (λ (l : List ℕ). l ++ rest) u.bytes ∙ append_assoc (unlines u.lines) held.bytes rest)
     ∙ reading_lines u.lines (held.bytes ++ rest) beginning u.plain
     ∙ ap (λ (w : Walk). chain w (λ q. reading (held.bytes ++ rest) q)) u.walked
+
+-- ---- causes behind lines
+
+cause_line : (line rest : List ℕ) (p : Place) → IsPlain line → stop_cause (line ++ 10 ∷ rest) p ≡ line_cause (length line + 1) line p (stop_cause rest)
+cause_line line rest p plain =
+    ap (λ (lines : List (List ℕ)). lines_cause lines p (last_cause (tail_of (line ++ 10 ∷ rest)))) (full_lines-line line rest plain)
+    ∙ ap (λ (tail : List ℕ). lines_cause (line ∷ full_lines rest) p (last_cause tail)) (tail_of-line line rest plain)
+
+-- a walk that arrives went on from where its first part ended
+by_ends : (items : List Item) (ends : Ends) (why : Option Cause) (next : Place → Option Cause) (go_on : Place → Walk) (q : Place) (to : Option Cause)
+    → ((r : Place) → (go_on r).ends ≡ at_place q → next r ≡ to) → (chain_from items ends go_on).ends ≡ at_place q → cause_from ends why next ≡ to
+by_ends items (at_place r) why next go_on q to then is = then r is
+by_ends items (stuck_by stop) why next go_on q to then is = absurd (cc)
+
+cause_lines : (lines : List (List ℕ)) (rest : List ℕ) (p q : Place) → All IsPlain lines → (walk lines p).ends ≡ at_place q
+    → stop_cause (unlines lines ++ rest) p ≡ stop_cause rest q
+cause_lines [] rest p q plain is = let here : p ≡ q = cc in ap (λ (r : Place). stop_cause rest r) here
+cause_lines (line ∷ lines) rest p q plain is =
+    let w = accept (length line + 1) line p in
+    ap (λ (bytes : List ℕ). stop_cause bytes p) (unlines-line line lines rest)
+    ∙ cause_line line (unlines lines ++ rest) p (All-head IsPlain line lines plain)
+    ∙ by_ends w.items w.ends (cause p.part (p.turns + 1) line) (stop_cause (unlines lines ++ rest)) (λ r. walk lines r) q (stop_cause rest q)
+    (λ r on. cause_lines lines rest r q (All-tail IsPlain line lines plain) on) is
+
+-- the cause is that of what follows lines that were used
+pub cause_used : (fed rest : List ℕ) (held : Held) (items : List Item) → UsesLines unread held fed items
+    → stop_cause (fed ++ rest) beginning ≡ stop_cause (held.bytes ++ rest) held.place
+cause_used fed rest held items u =
+    ap (λ (bytes : List ℕ). stop_cause bytes beginning) (ap (λ (l : List ℕ). l ++ rest) u.bytes ∙ append_assoc (unlines u.lines) held.bytes rest)
+    ∙ cause_lines u.lines (held.bytes ++ rest) beginning held.place u.plain (ap (λ (w : Walk). w.ends) u.walked)
 
 -- ---- steps
 
@@ -184,7 +216,7 @@ plays_item a new item piece left unended at told going =
           };
     }
 
-stops_same : (a b : ScriptStop) → Some a ≡ Some b → a ≡ b
+pub stops_same : (a b : ScriptStop) → Some a ≡ Some b → a ≡ b
 stops_same a b is = cc
 
 -- the script stops, whatever comes
@@ -198,6 +230,17 @@ stopped old new piece left (met.TooLong n) stop told is more =
     subst (λ (s : ScriptStop). reading (old.bytes ++ (piece ++ more)) old.place ≡ stuck_after [] (stop_of s)) same (told more)
 stopped old new piece left met.ReadFault stop told is more = absurd (told more)
 stopped old new piece left met.NoMemory stop told is more = absurd (cc)
+
+-- and the cause of a bad line is that of what is held
+caused : (old new : Held) (fed piece left : List ℕ) (fault : ScriptFault) (stop : ScriptStop) → PushTold old new piece left (Err fault) → stop_in fault ≡ Some stop
+    → (more : List ℕ) → stop_cause ((fed ++ piece) ++ more) beginning ≡ stop_cause (old.bytes ++ (piece ++ more)) old.place
+    → HasCause (stop_of stop) new ((fed ++ piece) ++ more)
+caused old new fed piece left (met.BadLine n) stop told is more same =
+    subst (λ (s : ScriptStop). HasCause (stop_of s) new ((fed ++ piece) ++ more)) (stops_same (BadLine n) stop is) (same ∙ (told more).cause)
+caused old new fed piece left (met.TooLong n) stop told is more same =
+    subst (λ (s : ScriptStop). HasCause (stop_of s) new ((fed ++ piece) ++ more)) (stops_same (TooLong n) stop is) tt
+caused old new fed piece left met.ReadFault stop told is more same = absurd (told more)
+caused old new fed piece left met.NoMemory stop told is more same = absurd (cc)
 
 stuck_behind : (fed piece more : List ℕ) (held : Held) (items : List Item) (stop : Stop) → UsesLines unread held fed items
     → reading (held.bytes ++ (piece ++ more)) held.place ≡ stuck_after [] stop → reading ((fed ++ piece) ++ more) beginning ≡ stuck_after items stop
@@ -217,12 +260,16 @@ plays_stop a new piece left fault stop unended at told is = record {
   report = refl;
   played = λ fed said h.
       let read = used_before a fed h.items unended at h.read in
-      let stuck : (more : List ℕ) → reading ((fed ++ piece) ++ more) beginning ≡ stuck_after h.items (stop_of stop) =
-      λ more. stuck_behind fed piece more a.script h.items (stop_of stop) read (stopped a.script new piece left fault stop told is more) in
+      let stuck : (more : List ℕ) → StopsSo new ((fed ++ piece) ++ more) h.items (stop_of stop) =
+      λ more. record {
+        stuck = stuck_behind fed piece more a.script h.items (stop_of stop) read (stopped a.script new piece left fault stop told is more);
+        cause = caused a.script new fed piece left fault stop told is more
+            (ap (λ (bytes : List ℕ). stop_cause bytes beginning) (append_assoc fed piece more) ∙ cause_used fed (piece ++ more) a.script h.items read);
+      } in
       record {
         items = h.items;
         text = h.text;
-        read = subst (λ (e : Bool). StopsBehind e (fed ++ piece) h.items (stop_of stop)) (sym unended) stuck;
+        read = subst (λ (e : Bool). StopsBehind e new (fed ++ piece) h.items (stop_of stop)) (sym unended) stuck;
         gives = h.gives;
         all = append-nil said ∙ (h.all ∙ ap (λ (next : NextItem). h.text ++ told_stop next) at);
       };
@@ -261,29 +308,30 @@ plays_end a stop waits left at is = record {
   waits = is;
   report = refl;
   played = λ fed told h.
-      let read : StopsBehind a.ended fed h.items (stop_of stop) = subst (HasRead a.ended a.script fed h.items) at h.read in
+      let read : StopsBehind a.ended a.script fed h.items (stop_of stop) = subst (HasRead a.ended a.script fed h.items) at h.read in
       let said : told ≡ h.text = h.all ∙ (ap (λ (n : NextItem). h.text ++ told_stop n) at ∙ append-nil h.text) in
       record {
         items = h.items;
         text = h.text;
-        read = subst (λ (l : List ℕ). StopsBehind a.ended l h.items (stop_of stop)) (sym (append-nil fed)) read;
+        read = subst (λ (l : List ℕ). StopsBehind a.ended a.script l h.items (stop_of stop)) (sym (append-nil fed)) read;
         gives = h.gives;
         all = ap (λ (l : List ℕ). l ++ stop_text (stop_of stop)) said;
       };
 }
 
 -- a stopped match takes what comes
-more_bytes : (ended : Bool) (fed more : List ℕ) (items : List Item) (stop : Stop) → IsFalse ended → StopsBehind ended fed items stop → StopsBehind ended (fed ++ more) items stop
-more_bytes true fed more items stop unended read = absurd (cc)
-more_bytes false fed more items stop unended read = λ rest.
-    ap (λ (bytes : List ℕ). reading bytes beginning) (append_assoc fed more rest) ∙ read (more ++ rest)
+more_bytes : (ended : Bool) (held : Held) (fed more : List ℕ) (items : List Item) (stop : Stop) → IsFalse ended → StopsBehind ended held fed items stop
+    → StopsBehind ended held (fed ++ more) items stop
+more_bytes true held fed more items stop unended read = absurd (cc)
+more_bytes false held fed more items stop unended read = λ rest.
+    subst (λ (bytes : List ℕ). StopsSo held bytes items stop) (sym (append_assoc fed more rest)) (read (more ++ rest))
 
 more_read : (ended : Bool) (held : Held) (fed more : List ℕ) (items : List Item) (next : NextItem) → IsFalse ended → IsStopped next → HasRead ended held fed items next
     → HasRead ended held (fed ++ more) items next
 more_read ended held fed more items next_item.Lines unended stopped read = absurd stopped
 more_read ended held fed more items (next_item.Item item) unended stopped read = absurd stopped
-more_read ended held fed more items (next_item.Stop stop) unended stopped read = more_bytes ended fed more items (stop_of stop) unended read
-more_read ended held fed more items (next_item.Nothing stop) unended stopped read = more_bytes ended fed more items (stop_of stop) unended read
+more_read ended held fed more items (next_item.Stop stop) unended stopped read = more_bytes ended held fed more items (stop_of stop) unended read
+more_read ended held fed more items (next_item.Nothing stop) unended stopped read = more_bytes ended held fed more items (stop_of stop) unended read
 more_read ended held fed more items next_item.Whole unended stopped read = absurd stopped
 
 pub plays_stopped : (a : MatchState) (piece : List ℕ) → IsFalse a.ended → IsStopped a.next_item → Plays a a piece []
@@ -331,9 +379,10 @@ feed_nothing a b piece left p = record { plays = p; told = λ fed told h. tt }
 -- the match has stopped
 stop_told : (b : MatchState) (stop : ScriptStop) (fed told : List ℕ) → IsFalse b.ended → b.next_item ≡ next_item.Nothing stop → HasPlayed b fed told → IsStopText b.report (stop_of stop) fed told
 stop_told b stop fed told unended at h =
-    let stops : StopsBehind b.ended fed h.items (stop_of stop) = subst (HasRead b.ended b.script fed h.items) at h.read in
-    let read : (more : List ℕ) → reading (fed ++ more) beginning ≡ stuck_after h.items (stop_of stop) =
-    subst (λ (e : Bool). StopsBehind e fed h.items (stop_of stop)) unended stops in
+    let stops : StopsBehind b.ended b.script fed h.items (stop_of stop) = subst (HasRead b.ended b.script fed h.items) at h.read in
+    let so : (more : List ℕ) → StopsSo b.script (fed ++ more) h.items (stop_of stop) =
+    subst (λ (e : Bool). StopsBehind e b.script fed h.items (stop_of stop)) unended stops in
+    let read : (more : List ℕ) → reading (fed ++ more) beginning ≡ stuck_after h.items (stop_of stop) = λ more. (so more).stuck in
     let said : told ≡ h.text ++ stop_text (stop_of stop) = h.all ∙ ap (λ (n : NextItem). h.text ++ told_stop n) at in
     record {
       stuck = λ more. ap (λ (w : Walk). w.ends) (read more);

@@ -1,10 +1,12 @@
 -- What a match has been fed with, what it has told, and how the one goes with the other.
-use Rattle.std.specs.Prelude.{ℕ, ◌≡◌, List, [], ◌∷◌, ◌++◌, Bool, true, false, IsTrue, Option, Some, None, Result, Ok, Err, ⊤}
+use Rattle.std.specs.Prelude.{ℕ, ◌≡◌, List, [], ◌∷◌, ◌++◌, Bool, true, false, IsSome, IsTrue, Option, Some, None, Result, Ok, Err, ⊤}
 use Rattle.posts.specs.declared.notes.Report.{Report}
 use Rattle.turn_core.specs.Words.{MapState}
 use Rattle.input_lines.specs.Lines.{full_lines}
 use Rattle.script_text.specs.Script.{Item, Place, beginning, Stop, whole_input, too_long, bad_line, stuck_by, arrived, chain, walk, reading}
-use Rattle.script_text.specs.Reader.{Held, unread, UsesLines, stuck_after}
+use Rattle.script_text.specs.declared.causes.Cause.{Cause}
+use Rattle.script_text.specs.Causes.{stop_cause}
+use Rattle.script_text.specs.Reader.{Held, unread, UsesLines, held_cause, stuck_after}
 use Rattle.script_text.specs.Pushed.{item_of}
 use Rattle.match_play.specs.declared.states.ScriptStop.{ScriptStop}
 use Rattle.match_play.specs.declared.states.ScriptStop.TheVariants.{BadLine, TooLong}
@@ -21,24 +23,65 @@ abbrev pub stop_of : ScriptStop → Stop
 stop_of (BadLine n) = bad_line n
 stop_of (TooLong n) = too_long n
 
+-- Behind these items the reading of the bytes goes on with what is held.
+pub record GoesOnBehind (held : Held) (bytes : List ℕ) (items : List Item) : Type 0 where
+  pub same : reading bytes beginning ≡ chain (arrived items held.place) (λ q. reading held.bytes q)
+  pub cause : stop_cause bytes beginning ≡ stop_cause held.bytes held.place
+
 -- These items were read. While the script may go on they are those of lines that were used; of a script that has ended, its
 -- reading goes on behind them with what is held.
 abbrev pub ReadsItems : Bool → Held → List ℕ → List Item → Type 0
 ReadsItems false held fed items = UsesLines unread held fed items
-ReadsItems true held fed items = reading fed beginning ≡ chain (arrived items held.place) (λ q. reading held.bytes q)
+ReadsItems true held fed items = GoesOnBehind held fed items
 
--- Behind these items the script stops so: whatever follows, or where it has ended, with these bytes.
-abbrev pub StopsBehind : Bool → List ℕ → List Item → Stop → Type 0
-StopsBehind false fed items stop = (more : List ℕ) → reading (fed ++ more) beginning ≡ stuck_after items stop
-StopsBehind true fed items stop = reading fed beginning ≡ stuck_after items stop
+-- a bad line is bad for the cause of what is held
+abbrev pub HasCause : Stop → Held → List ℕ → Type 0
+HasCause whole_input held bytes = ⊤
+HasCause (too_long n) held bytes = ⊤
+HasCause (bad_line n) held bytes = stop_cause bytes beginning ≡ held_cause held
+
+-- Behind these items an input of these bytes stops so.
+pub record StopsSo (held : Held) (bytes : List ℕ) (items : List Item) (stop : Stop) : Type 0 where
+  pub stuck : reading bytes beginning ≡ stuck_after items stop
+  pub cause : HasCause stop held bytes
+
+-- The same of a script: whatever follows, or where it has ended, with these bytes.
+abbrev pub StopsBehind : Bool → Held → List ℕ → List Item → Stop → Type 0
+StopsBehind false held fed items stop = (more : List ℕ) → StopsSo held (fed ++ more) items stop
+StopsBehind true held fed items stop = StopsSo held fed items stop
 
 -- What was read, where these items were told: the items, and one more where one waits; or a script that stops behind them.
 abbrev pub HasRead : Bool → Held → List ℕ → List Item → NextItem → Type 0
 HasRead ended held fed items next_item.Lines = ReadsItems ended held fed items
 HasRead ended held fed items (next_item.Item item) = ReadsItems ended held fed (items ++ item_of item ∷ [])
-HasRead ended held fed items (next_item.Stop stop) = StopsBehind ended fed items (stop_of stop)
-HasRead ended held fed items (next_item.Nothing stop) = StopsBehind ended fed items (stop_of stop)
-HasRead ended held fed items next_item.Whole = StopsBehind ended fed items whole_input
+HasRead ended held fed items (next_item.Stop stop) = StopsBehind ended held fed items (stop_of stop)
+HasRead ended held fed items (next_item.Nothing stop) = StopsBehind ended held fed items (stop_of stop)
+HasRead ended held fed items next_item.Whole = StopsBehind ended held fed items whole_input
+
+-- a bad line has a cause, and one that is too long has none
+abbrev pub cause_by : ScriptStop → Option Cause → Option Cause
+cause_by (BadLine n) why = why
+cause_by (TooLong n) why = None
+
+-- the cause where a stop was met
+abbrev pub cause_at : NextItem → Option Cause → Option Cause
+cause_at next_item.Lines why = None
+cause_at (next_item.Item item) why = None
+cause_at (next_item.Stop stop) why = cause_by stop why
+cause_at (next_item.Nothing stop) why = cause_by stop why
+cause_at next_item.Whole why = None
+
+-- why the line is bad at which the match has stopped, where it has met a bad line: the cause of what it holds
+abbrev pub bad_cause : MatchState → Option Cause
+bad_cause m = cause_at m.next_item (held_cause m.script)
+
+-- A match that refuses a bad line has its cause. It has none where it has not refused, or for a line that is too long.
+abbrev pub TellsWhy : Result (Unit {0}) MatchFault → Option Cause → Type 0
+TellsWhy (Ok done) why = why ≡ None
+TellsWhy (Err (fault.BadLine n)) why = IsSome why
+TellsWhy (Err (fault.TooLong n)) why = why ≡ None
+TellsWhy (Err fault.Ended) why = ⊤
+TellsWhy (Err fault.NoMemory) why = ⊤
 
 -- what was told of a stop
 abbrev pub told_stop : NextItem → List ℕ

@@ -27,6 +27,7 @@
 #![tactic(auto)]
 
 mod faults;
+mod laws;
 mod match_progress;
 mod match_states;
 mod matches;
@@ -35,6 +36,7 @@ mod states;
 mod views;
 
 pub use faults::MatchFault;
+pub use laws::one_cause;
 pub use match_progress::play_item;
 pub use matches::Match;
 pub use posted::{EndedTurn, PostedMatch};

@@ -1,17 +1,18 @@
 //! How a match goes from bytes to texts.
 ghost use Rattle.std.specs.Prelude.{◌≡◌, ◌≢◌, ◌++◌, ℕ, List, [], IsFalse, IsTrue, ◌↔◌, IfOk, OnErr, OnOk, Err};
+ghost use Rattle.script_text.specs.Reader.{held_cause};
 ghost use Rattle.match_play.specs.declared.faults.MatchFault.TheVariants.{Ended, NoMemory as no_memory};
 ghost use Rattle.match_play.specs.declared.states.NextItem.TheVariants.{Lines};
-ghost use Rattle.match_play.specs.Playing.{FeedPlays, FinishPlays, IsOver, IsTold, Plays, TakesAll, stop_of};
+ghost use Rattle.match_play.specs.Playing.{FeedPlays, FinishPlays, IsOver, IsTold, Plays, TakesAll, TellsWhy, bad_cause, cause_by, stop_of};
 ghost use Rattle.match_play.specs.Texts.{stop_text};
-ghost use Rattle.match_play.specs.inner.Fitting.{IsFit, IsGoing, IsStopped, TellsStop, fault_of, stop_in};
+ghost use Rattle.match_play.specs.inner.Fitting.{HoldsStop, IsFit, IsGoing, IsStopped, TellsStop, fault_of, stop_in};
 
 use crate::faults::MatchFault;
 use crate::match_progress::play_item;
 use crate::states::{MatchState, NextItem, ScriptStop};
 use answer_text::bad_line_text;
 use nav_types::{Bytes, NoMemory};
-use script_text::ScriptFault;
+use script_text::{Cause, PushedScript, ScriptFault};
 use std::alloc::Global;
 use std::mem;
 use turn_core::Answerer;
@@ -30,6 +31,7 @@ pub(crate) fn feed<A: Answerer>(
     ensures ended { (result ≡ Err Ended) ↔ IsTrue match_state.old.ended }
     ensures kept { result ≡ Err Ended → (match_state.new ≡ match_state.old) × (bytes.new.now ≡ bytes.old.now) }
     ensures stays { match_state.new.ended ≡ match_state.old.ended }
+    ensures why { TellsWhy result (bad_cause match_state.new) }
     ensures fit { IsFit match_state.new }
 {
     if match_state.ended {
@@ -55,6 +57,7 @@ pub(crate) fn finish<A: Answerer>(
     ensures over { result ≢ Err no_memory → IsOver match_state.new }
     ensures again { (result ≡ Err Ended) ↔ IsOver match_state.old }
     ensures kept { result ≡ Err Ended → match_state.new ≡ match_state.old }
+    ensures why { TellsWhy result (bad_cause match_state.new) }
     ensures fit { IsFit match_state.new }
 {
     if is_over(match_state) {
@@ -109,6 +112,7 @@ fn read_on<A: Answerer>(
     ensures all { TakesAll bytes.new.now result }
     ensures answer { result ≢ Err Ended }
     ensures stays { match_state.new.ended ≡ match_state.old.ended }
+    ensures why { TellsWhy result (bad_cause match_state.new) }
     ensures fit { IsFit match_state.new }
 {
     'items: loop {
@@ -145,6 +149,7 @@ fn read_rest<A: Answerer>(
     ensures answer { result ≢ Err Ended }
     ensures ended { IsTrue match_state.new.ended }
     ensures told { result ≢ Err no_memory → IsTold match_state.new.next_item }
+    ensures why { TellsWhy result (bad_cause match_state.new) }
     ensures fit { IsFit match_state.new }
 {
     'items: loop {
@@ -222,6 +227,7 @@ fn stop_in(fault: ScriptFault) -> Option<ScriptStop>
 
 /// Tells the stop that was met, unless it was told.
 fn tell_stop(alloc: Global, match_state: &mut MatchState) -> Result<(), MatchFault>
+    requires fit { IsFit match_state.old }
     requires stopped { IsStopped match_state.old.next_item }
     ensures plays { (left : List ℕ) → Plays match_state.old match_state.new left left }
     ensures stop { TellsStop match_state.new.next_item result }
@@ -239,6 +245,36 @@ fn tell_stop(alloc: Global, match_state: &mut MatchState) -> Result<(), MatchFau
             Err(fault_of(stop))
         }
         Err(NoMemory) => Err(MatchFault::NoMemory),
+    }
+}
+
+/// Why the line is bad at which the script has stopped. None where it has met no bad line.
+pub(crate) fn cause(alloc: Global, match_state: &MatchState) -> Result<Option<Cause>, NoMemory>
+    requires fit { IsFit match_state.now }
+    ensures { IfOk result (λ why. why ≡ bad_cause match_state.now) }
+{
+    match match_state.next_item {
+        NextItem::Stop(stop) => cause_by(alloc, &match_state.script, stop),
+        NextItem::Nothing(stop) => cause_by(alloc, &match_state.script, stop),
+        NextItem::Lines | NextItem::Item(_) | NextItem::Whole => Ok(None),
+    }
+}
+
+/// Why the line is bad that the script holds at a stop. None of a line that is too long.
+fn cause_by(
+    alloc: Global,
+    script: &PushedScript,
+    stop: ScriptStop,
+) -> Result<Option<Cause>, NoMemory>
+    requires { HoldsStop stop script.now }
+    ensures { IfOk result (λ why. why ≡ cause_by stop (held_cause script.now)) }
+{
+    match stop {
+        ScriptStop::BadLine(_) => match script.cause(alloc) {
+            Ok(cause) => Ok(Some(cause)),
+            Err(NoMemory) => Err(NoMemory),
+        },
+        ScriptStop::TooLong(_) => Ok(None),
     }
 }
 

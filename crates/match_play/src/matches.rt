@@ -1,7 +1,7 @@
 //! Matches.
 ghost use Rattle.std.specs.Prelude.{◌≡◌, ◌≢◌, ◌↔◌, [], Err, IfOk, IsFalse, IsTrue};
 ghost use Rattle.match_play.specs.declared.faults.MatchFault.TheVariants.{Ended, NoMemory as no_memory};
-ghost use Rattle.match_play.specs.Playing.{FeedPlays, FinishPlays, HasPlayed, HasTaken, IsOver, IsView, TakesAll, said_of};
+ghost use Rattle.match_play.specs.Playing.{FeedPlays, FinishPlays, HasPlayed, HasTaken, IsOver, IsView, TakesAll, TellsWhy, bad_cause, said_of};
 
 use crate::faults::MatchFault;
 use crate::match_states;
@@ -10,7 +10,7 @@ use crate::views::view_of;
 use grid_versions::Version;
 use nav_types::{Bytes, NoMemory};
 use posts::Report;
-use script_text::PushedScript;
+use script_text::{Cause, PushedScript};
 use std::alloc::Global;
 use std::marker::Model;
 use std::mem;
@@ -80,6 +80,7 @@ impl Match {
         ensures ended { (result ≡ Err Ended) ↔ IsTrue self.old.ended }
         ensures kept { result ≡ Err Ended → (self.new ≡ self.old) × (bytes.new.now ≡ bytes.old.now) }
         ensures stays { self.new.ended ≡ self.old.ended }
+        ensures why { TellsWhy result (bad_cause self.new) }
     {
         match_states::feed(alloc, &mut self.thread, &mut self.match_state, bytes)
     }
@@ -96,8 +97,18 @@ impl Match {
         ensures over { result ≢ Err no_memory → IsOver self.new }
         ensures again { (result ≡ Err Ended) ↔ IsOver self.old }
         ensures kept { result ≡ Err Ended → self.new ≡ self.old }
+        ensures why { TellsWhy result (bad_cause self.new) }
     {
         match_states::finish(alloc, &mut self.thread, &mut self.match_state)
+    }
+
+    /// Why the line is bad at which the match has stopped. None where it has met no bad line; after a call that answered
+    /// `BadLine` there is a cause (`TellsWhy`). By the law [`crate::one_cause`] it is that of the first bad line of all that
+    /// the match was fed with.
+    pub fn cause(&self, alloc: Global) -> Result<Option<Cause>, NoMemory>
+        ensures { IfOk result (λ why. why ≡ bad_cause self.now) }
+    {
+        match_states::cause(alloc, &self.match_state)
     }
 
     /// The text that was told and not taken yet.

@@ -1,7 +1,7 @@
 -- How what a match stands on fits how far its script was read.
-use Rattle.std.specs.Prelude.{ℕ, ◌≡◌, ◌≢◌, ◌⊎◌, ◌≤◌, [], Bool, true, false, Option, Some, None, Result, Err, IsFalse, IsTrue, ⊤}
+use Rattle.std.specs.Prelude.{ℕ, ◌≡◌, ◌≢◌, ◌⊎◌, ◌≤◌, [], Bool, true, false, Option, Some, None, Result, Err, IsFalse, IsSome, IsTrue, ⊤}
 use Rattle.nav_types.specs.declared.limits.TheConstants.{MAX_INPUT_BYTES}
-use Rattle.script_text.specs.Reader.{Held}
+use Rattle.script_text.specs.Reader.{Held, held_cause}
 use Rattle.script_text.specs.declared.faults.ScriptFault.{ScriptFault}
 use Rattle.script_text.specs.declared.faults.ScriptFault.TheVariants as met
 use Rattle.match_play.specs.declared.states.NextItem.{NextItem}
@@ -36,12 +36,18 @@ MayGoOn true held turns Fits = IsLast held turns Fits
 abbrev pub FitsLines : Bool → MatchProgress → Held → Type 0
 FitsLines ended g held = MayGoOn ended held (turns_in g) (FitsPart g held.place.part)
 
--- An item that waits fits, and what it makes of what stands fits the lines behind it.
+-- what is held at a bad line has a cause
+abbrev pub HoldsStop : ScriptStop → Held → Type 0
+HoldsStop (BadLine n) held = IsSome (held_cause held)
+HoldsStop (TooLong n) held = ⊤
+
+-- An item that waits fits, and what it makes of what stands fits the lines behind it. A stop has its
+-- cause.
 abbrev pub FitsAhead : Bool → MatchProgress → Held → NextItem → Type 0
 FitsAhead ended g held next_item.Lines = FitsLines ended g held
 FitsAhead ended g held (next_item.Item i) = FitsItem g i × ((next : MatchProgress) → Becomes g i next → FitsLines ended next held)
-FitsAhead ended g held (next_item.Stop stop) = ⊤
-FitsAhead ended g held (next_item.Nothing stop) = ⊤
+FitsAhead ended g held (next_item.Stop stop) = HoldsStop stop held
+FitsAhead ended g held (next_item.Nothing stop) = HoldsStop stop held
 FitsAhead ended g held next_item.Whole = IsTrue ended
 
 abbrev pub IsFit : MatchState → Type 0

@@ -1,5 +1,6 @@
 use Rattle.std.proofs.Common.{[], ◌∙◌}
 use Rattle.match_play.proofs.Playing.{plays_stopped, plays_then, feed_told, feed_ended, stop_answer, only_ended}
+use Rattle.match_play.proofs.Stopping.{tells_why}
 use Rattle.match_play.proofs.match_states.feed.Goals as goal
 
 pub returns-then-match_state-clause-plays : goal.returns-then-match_state-clause-plays
@@ -25,3 +26,6 @@ returns-clause-ended g c = only_ended c.read_on.result c.args.match_state.now.en
 
 pub returns-clause-kept : goal.returns-clause-kept
 returns-clause-kept g c = λ is. absurd (c.read_on.ensures.answer is)
+
+pub returns-then-is_stopped-clause-why : goal.returns-then-is_stopped-clause-why
+returns-then-is_stopped-clause-why g c = tells_why c.tell_stop.new.match_state c.tell_stop.result c.tell_stop.ensures.stop c.tell_stop.ensures.fit

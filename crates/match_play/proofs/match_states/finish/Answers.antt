@@ -3,6 +3,7 @@ use Rattle.match_play.specs.declared.states.MatchState.{MatchState}
 use Rattle.match_play.proofs.Playing.{stop_answer, only_over}
 use Rattle.match_play.proofs.Finishing.{plays_ended, finish_again, finish_then, finish_stop, stop_over}
 use Rattle.match_play.proofs.LastItems.{fits_ended, going_on}
+use Rattle.match_play.proofs.Stopping.{tells_why}
 use Rattle.match_play.proofs.match_states.finish.Goals as goal
 
 pub returns-then-is_over-clause-plays : goal.returns-then-is_over-clause-plays
@@ -61,3 +62,11 @@ read_rest-requires-clause-going g c =
     going_on a.ended a.progress a.script a.next_item c.requires.fit
     (λ stopped. let is = c.is_stopped.ensures.1 stopped in let none = c.if-is_stopped.false in absurd (cc))
     (λ ended told. let is = c.is_over.ensures.1 (ended, told) in let none = c.if-is_over.false in absurd (cc))
+
+pub tell_stop-requires-clause-fit : goal.tell_stop-requires-clause-fit
+tell_stop-requires-clause-fit g c =
+    let a = c.args.match_state.now in
+    fits_ended a.ended a.progress a.script a.next_item c.requires.fit
+
+pub returns-then-is_stopped-clause-why : goal.returns-then-is_stopped-clause-why
+returns-then-is_stopped-clause-why g c = tells_why c.tell_stop.new.match_state c.tell_stop.result c.tell_stop.ensures.stop c.tell_stop.ensures.fit

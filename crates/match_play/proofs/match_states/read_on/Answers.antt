@@ -1,8 +1,11 @@
-use Rattle.std.proofs.Common.{◌+◌, ◌<◌, [], length, sym, subst, ◌∙◌}
-use Rattle.script_text.specs.Reader.{Held}
+use Rattle.std.proofs.Common.{◌+◌, ◌<◌, [], length, sym, ap, subst, ◌∙◌}
+use Rattle.script_text.specs.Reader.{Held, held_cause}
+use Rattle.match_play.specs.declared.states.NextItem.{NextItem}
 use Rattle.match_play.specs.declared.states.NextItem.TheVariants as next_item
+use Rattle.match_play.specs.Playing.{cause_at}
 use Rattle.match_play.proofs.Playing.{with_script, with_ahead, plays_none, plays_then, plays_item, plays_lines, plays_fault, plays_stop, feed_lines, feed_nothing, feed_told, stop_answer}
 use Rattle.match_play.proofs.Fits.{fit_lines, lines_fit, item_fits, fits_item, fits_lines, fits_fault, shorter}
+use Rattle.match_play.proofs.Stopping.{holds_stop, tells_why}
 use Rattle.match_play.proofs.match_states.read_on.Goals as goal
 
 pub items-init : goal.items-init
@@ -128,3 +131,13 @@ pub next-requires-clause-more : goal.next-requires-clause-more
 next-requires-clause-more g c =
     let m = c.tell_item.new.match_state in
     (fit_lines m (c.tell_item.ensures.ended ∙ c.items.invariant.unended) c.in-Ok.ensures.told c.tell_item.ensures.fit).0.more
+
+pub tell_stop-requires-clause-fit : goal.tell_stop-requires-clause-fit
+tell_stop-requires-clause-fit g c =
+    holds_stop c.next.new.self c.in-Err-next.fault c.in-Some.stop c.in-Err-next.ensures.bad (sym c.stop_in.ensures ∙ c.in-Some.is)
+
+pub returns-in-Ok-None-clause-why : goal.returns-in-Ok-None-clause-why
+returns-in-Ok-None-clause-why g c = ap (λ (next : NextItem). cause_at next (held_cause c.next.new.self)) c.in-Ok.ensures.told
+
+pub returns-in-Some-clause-why : goal.returns-in-Some-clause-why
+returns-in-Some-clause-why g c = tells_why c.tell_stop.new.match_state c.tell_stop.result c.tell_stop.ensures.stop c.tell_stop.ensures.fit

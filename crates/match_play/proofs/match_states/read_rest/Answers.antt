@@ -4,6 +4,7 @@ use Rattle.match_play.specs.declared.states.NextItem.TheVariants as next_item
 use Rattle.match_play.proofs.Playing.{with_script, with_ahead, plays_none, plays_then, stop_answer}
 use Rattle.match_play.proofs.Finishing.{rest_item, rest_whole, rest_stop, rest_kept, finish_nothing, finish_whole, finish_stop, stop_over}
 use Rattle.match_play.proofs.LastItems.{last_lines, lines_last, item_last, rest_next, rest_stays, rest_shorter}
+use Rattle.match_play.proofs.Stopping.{holds_stop, tells_why}
 use Rattle.match_play.proofs.match_states.read_rest.Goals as goal
 
 pub items-init : goal.items-init
@@ -99,3 +100,10 @@ pub finish-requires : goal.finish-requires
 finish-requires g c =
     let m = c.tell_item.new.match_state in
     record { going = (last_lines m (c.tell_item.ensures.ended ∙ c.items.invariant.ended) c.in-Ok.ensures.told c.tell_item.ensures.fit).going }
+
+pub tell_stop-requires-clause-fit : goal.tell_stop-requires-clause-fit
+tell_stop-requires-clause-fit g c =
+    holds_stop c.finish.new.self c.in-Err-finish.fault c.in-Some.stop c.in-Err-finish.ensures.bad (sym c.stop_in.ensures ∙ c.in-Some.is)
+
+pub returns-in-Some-clause-why : goal.returns-in-Some-clause-why
+returns-in-Some-clause-why g c = tells_why c.tell_stop.new.match_state c.tell_stop.result c.tell_stop.ensures.stop c.tell_stop.ensures.fit
