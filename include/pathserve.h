@@ -5,7 +5,7 @@
  * answered on the map that they leave. No answer depends on floats, time, threads or addresses: machines that give a match
  * the same posts get the same answers, byte for byte. docs/FORMAT.md describes each answer.
  *
- *     by text       pathserve_open       feed, finish          waiting, take
+ *     by text       pathserve_open       feed, finish          waiting, take, cause
  *     by structs    pathserve_open_map   check, post_all, end_turn   replies, waypoints, journal
  *     to look       pathserve_view_of    passable, region, area, row, nearest, standing_at, standing, find, field,
  *                                        clear, smooth
@@ -96,6 +96,16 @@ enum {
 /* Any status but DONE leaves a handle as it was, except the two of a script (BAD_LINE, TOO_LONG) and where a call says
  * otherwise. */
 
+/* ---- texts: each call writes a text in ASCII, without a 0 behind it, as much of it as fits, and returns how many bytes the whole
+ * text has. What lies behind it in the buffer stays. No text has more than PATHSERVE_TEXT bytes ---- */
+
+#define PATHSERVE_TEXT 96u
+
+size_t pathserve_status_text(pathserve_status status, uint8_t *buffer, size_t length); /* what a status means */
+size_t pathserve_refusal_text(uint32_t why, uint8_t *buffer, size_t length); /* pathserve_reply.why, by the word of the answers */
+size_t pathserve_fault_text(uint32_t why, uint8_t *buffer, size_t length);   /* what pathserve_check finds wrong with a post */
+size_t pathserve_version_text(uint8_t *buffer, size_t length);               /* the version of the library, as "0.1.0" */
+
 /* ---- handles: initialise them to zero, as in `pathserve_match match = PATHSERVE_CLOSED_HANDLE;` ---- */
 
 #define PATHSERVE_CLOSED_HANDLE {0, NULL} /* a closed handle, as `{0}` of C and `{}` of C++ */
@@ -143,6 +153,12 @@ pathserve_status pathserve_feed(pathserve_match *match, const uint8_t *bytes, si
  *   ENDED                 it was called before, and no text was missing.
  *   CLOSED, OTHER */
 pathserve_status pathserve_finish(pathserve_match *match);
+
+/* Says why the line is bad at which the match has stopped: what the program writes behind `line N is bad: `. `whole` gets the size
+ * of that text: 0 as long as no line was bad.
+ * DONE: it is at the start of the buffer. SMALL: it does not fit, and nothing was written to the buffer; so a first call with
+ * (NULL, 0) asks for the size. NO_MEMORY, CLOSED, OTHER: neither was written. */
+pathserve_status pathserve_cause(pathserve_match *match, uint8_t *buffer, size_t length, size_t *whole);
 
 /* How many bytes of text wait. 0 for a match that is closed or by structs. */
 size_t pathserve_waiting(pathserve_match *match);

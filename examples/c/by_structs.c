@@ -2,19 +2,24 @@
 #include <inttypes.h>
 #include <stdio.h>
 #include <pathserve.h>
-#include "words.h"
 
 #define NAVCELLS(count) ((pathserve_fixed)((count) * PATHSERVE_NAVCELL))
 
 enum { INFANTRY, SIEGE, CLASSES };
 enum { MOST_REPLIES = 64, MOST_WAYPOINTS = 1024 }; /* of a turn here */
 
+static void print_refusal(uint8_t why) {
+    uint8_t text[PATHSERVE_TEXT];
+    size_t length = pathserve_refusal_text(why, text, sizeof text);
+    printf("refused %.*s\n", (int)length, (const char *)text);
+}
+
 static void print_reply(const pathserve_reply *reply, const pathserve_cell *waypoints) {
     static const char *const edit[] = {"", "added", "removed", "moved"};
 
     printf("%u %" PRIu32 " ", reply->caller, reply->post);
     switch (reply->kind) {
-    case PATHSERVE_REFUSED: printf("refused %s\n", word_of_refusal(reply->why)); return;
+    case PATHSERVE_REFUSED: print_refusal(reply->why); return;
     case PATHSERVE_NOWHERE: puts("nowhere"); return;
     case PATHSERVE_IN_REGION:
         printf("region %u %u %u %" PRIu32 "\n", reply->chunk.i, reply->chunk.j, reply->region, reply->area);
@@ -66,6 +71,10 @@ int main(void) {
     if (status == PATHSERVE_DONE) status = play(&match, (pathserve_post[]){wall, to_the_wall, west, where}, 4);
     if (status == PATHSERVE_DONE) status = play(&match, (pathserve_post[]){west, aside, away}, 3);
     pathserve_close(&match);
-    if (status != PATHSERVE_DONE) fprintf(stderr, "by_structs: %s\n", words_of_status(status));
+    if (status != PATHSERVE_DONE) {
+        uint8_t text[PATHSERVE_TEXT];
+        size_t length = pathserve_status_text(status, text, sizeof text);
+        fprintf(stderr, "by_structs: %.*s\n", (int)length, (const char *)text);
+    }
     return (int)status;
 }

@@ -28,6 +28,14 @@ static uint32_t report_of(const char *word) {
     return PATHSERVE_REPLAY;
 }
 
+/* Why the script's bad line is bad, as the program says it. */
+static void write_cause(pathserve_match *match) {
+    uint8_t text[1024];
+    size_t length;
+    if (pathserve_cause(match, text, sizeof text, &length) == PATHSERVE_DONE)
+        fprintf(stderr, "by_text: %.*s\n", (int)length, (const char *)text);
+}
+
 int main(int count, char **words) {
     pathserve_match match = {0};
     uint8_t bytes[4096];
@@ -42,6 +50,7 @@ int main(int count, char **words) {
     }
     if (status == PATHSERVE_DONE) status = pathserve_finish(&match);
     write_answers(&match);
+    if (status == PATHSERVE_BAD_LINE) write_cause(&match);
     pathserve_close(&match);
     return (int)status;
 }

@@ -44,11 +44,38 @@ struct Rectangle {
     Fixed half_length, half_width;
 };
 
+// ---- texts
+
+namespace detail {
+
+// What a call of the library writes to a buffer.
+template <typename Call> std::string text_by(Call call) {
+    std::string text(PATHSERVE_TEXT, '\0');
+    text.resize(call(reinterpret_cast<std::uint8_t *>(text.data()), text.size()));
+    return text;
+}
+
+} // namespace detail
+
+// What a status means, a reply's `why`, and what is wrong with a post that a match would refuse.
+inline std::string status_text(pathserve_status status) {
+    return detail::text_by([=](std::uint8_t *to, std::size_t length) { return pathserve_status_text(status, to, length); });
+}
+inline std::string refusal_text(std::uint32_t why) {
+    return detail::text_by([=](std::uint8_t *to, std::size_t length) { return pathserve_refusal_text(why, to, length); });
+}
+inline std::string fault_text(std::uint32_t why) {
+    return detail::text_by([=](std::uint8_t *to, std::size_t length) { return pathserve_fault_text(why, to, length); });
+}
+
+// The version of the library that was linked.
+inline std::string version_text() { return detail::text_by(pathserve_version_text); }
+
 // ---- what fails
 
 class Failed : public std::runtime_error {
   public:
-    explicit Failed(pathserve_status status) : std::runtime_error("pathserve: status " + std::to_string(status)), its_status(status) {}
+    explicit Failed(pathserve_status status) : std::runtime_error("pathserve: " + status_text(status)), its_status(status) {}
 
     // One of the PATHSERVE_ statuses.
     pathserve_status status() const noexcept { return its_status; }
@@ -379,6 +406,21 @@ class Finder {
 
 // ---- matches
 
+namespace detail {
+
+// The text of a match that a call writes to a buffer, once it has said how long it is.
+inline std::string told_by(pathserve_status (*call)(pathserve_match *, std::uint8_t *, std::size_t, std::size_t *), pathserve_match *match) {
+    std::string text;
+    std::size_t whole = 0;
+    pathserve_status status;
+    while ((status = call(match, reinterpret_cast<std::uint8_t *>(text.data()), text.size(), &whole)) == PATHSERVE_SMALL)
+        text.resize(whole);
+    must(status);
+    return text;
+}
+
+} // namespace detail
+
 // A match by posts.
 class Match {
   public:
@@ -411,15 +453,7 @@ class Match {
     }
 
     // The turns that have ended as a script.
-    std::string journal() {
-        std::string script;
-        std::size_t whole = 0;
-        pathserve_status status;
-        while ((status = pathserve_journal(get(), reinterpret_cast<std::uint8_t *>(script.data()), script.size(), &whole)) == PATHSERVE_SMALL)
-            script.resize(whole);
-        must(status);
-        return script;
-    }
+    std::string journal() { return detail::told_by(pathserve_journal, get()); }
 
     View view() { return View::of(get()); }
 
@@ -445,6 +479,9 @@ class TextMatch {
 
     // Ends the script. Failed with NO_MEMORY: it has ended, and some text is missing; call again.
     void finish() { must(pathserve_finish(get())); }
+
+    // Why the line is bad at which the match has stopped, as the program says it. Empty as long as no line was bad.
+    std::string cause() { return detail::told_by(pathserve_cause, get()); }
 
     // The text that waits, all of it.
     std::string take() {

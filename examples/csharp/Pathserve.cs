@@ -222,11 +222,16 @@ namespace Pathserve
         [DllImport(Library)] internal static extern uint pathserve_version();
         [DllImport(Library)] internal static extern uint pathserve_answers();
         [DllImport(Library)] internal static extern UIntPtr pathserve_size_of(uint which);
+        [DllImport(Library)] internal static extern UIntPtr pathserve_status_text(Status status, [Out] byte[] buffer, UIntPtr length);
+        [DllImport(Library)] internal static extern UIntPtr pathserve_refusal_text(uint why, [Out] byte[] buffer, UIntPtr length);
+        [DllImport(Library)] internal static extern UIntPtr pathserve_fault_text(PostFault why, [Out] byte[] buffer, UIntPtr length);
+        [DllImport(Library)] internal static extern UIntPtr pathserve_version_text([Out] byte[] buffer, UIntPtr length);
 
         [DllImport(Library)] internal static extern void pathserve_close(ref Handle match);
         [DllImport(Library)] internal static extern Status pathserve_open(ref Handle match, Report report);
         [DllImport(Library)] internal static extern Status pathserve_feed(ref Handle match, byte[] bytes, UIntPtr length, out UIntPtr taken);
         [DllImport(Library)] internal static extern Status pathserve_finish(ref Handle match);
+        [DllImport(Library)] internal static extern Status pathserve_cause(ref Handle match, [Out] byte[] buffer, UIntPtr length, out UIntPtr whole);
         [DllImport(Library)] internal static extern UIntPtr pathserve_waiting(ref Handle match);
         [DllImport(Library)] internal static extern UIntPtr pathserve_take(ref Handle match, [Out] byte[] buffer, UIntPtr length);
 
@@ -294,12 +299,44 @@ namespace Pathserve
             if (status != Status.Done) throw new PathserveException(status);
         }
 
+        internal const int Text = 96;
+
+        internal static string Said(byte[] text, UIntPtr count) { return Encoding.ASCII.GetString(text, 0, (int)count); }
+
         internal static UIntPtr Count(Array items) { return (UIntPtr)(items == null ? 0 : items.Length); }
 
         /// <summary>Sees to an array of at least so many items.</summary>
         internal static void Room<T>(ref T[] items, ulong count)
         {
             if (items == null || (ulong)items.Length < count) items = new T[count];
+        }
+    }
+
+    /// <summary>What the library says of its numbers, and its version.</summary>
+    public static class Texts
+    {
+        public static string Of(Status status)
+        {
+            byte[] text = new byte[Native.Text];
+            return Native.Said(text, Native.pathserve_status_text(status, text, Native.Count(text)));
+        }
+
+        public static string Of(Refusal why)
+        {
+            byte[] text = new byte[Native.Text];
+            return Native.Said(text, Native.pathserve_refusal_text((uint)why, text, Native.Count(text)));
+        }
+
+        public static string Of(PostFault why)
+        {
+            byte[] text = new byte[Native.Text];
+            return Native.Said(text, Native.pathserve_fault_text(why, text, Native.Count(text)));
+        }
+
+        public static string Version()
+        {
+            byte[] text = new byte[Native.Text];
+            return Native.Said(text, Native.pathserve_version_text(text, Native.Count(text)));
         }
     }
 
@@ -385,6 +422,17 @@ namespace Pathserve
 
         /// <summary>Tells that no more bytes come.</summary>
         public void Finish() { Native.Must(Native.pathserve_finish(ref handle)); }
+
+        /// <summary>Why the line is bad at which the match has stopped, as the program says it. Empty as long as no line was bad.</summary>
+        public string Cause()
+        {
+            UIntPtr whole;
+            Status status = Native.pathserve_cause(ref handle, null, UIntPtr.Zero, out whole);
+            if (status != Status.Small) Native.Must(status);
+            byte[] text = new byte[(ulong)whole];
+            Native.Must(Native.pathserve_cause(ref handle, text, whole, out whole));
+            return Native.Said(text, whole);
+        }
 
         /// <summary>The bytes that wait. None waits then.</summary>
         public byte[] Take()

@@ -170,23 +170,6 @@ class Header(unittest.TestCase):
                 file.write(f"#include <pathserve.h>\nint main(void) {{\n{lines}    return (int)pathserve_size_of(0);\n}}\n")
             self.assertEqual(answers(built(folder, source)), (b"", 0))
 
-    @needs_cc
-    def test_each_status_and_each_refusal_has_words(self):
-        with open(HEADER, encoding="utf-8") as file:
-            blocks = re.findall(r"(?ms)^enum \{.*?^\};", file.read())
-        named = [re.findall(r"PATHSERVE_(\w+) = \d+", next(it for it in blocks if name in it)) for name in ("_CLOSED", "_BAD_SHAPE")]
-        with tempfile.TemporaryDirectory() as folder:
-            source = os.path.join(folder, "words.c")
-            calls = zip(("words_of_status", "word_of_refusal"), named)
-            puts = "".join(f"    puts({call}(PATHSERVE_{name}));\n" for call, names in calls for name in names)
-            with open(source, "w", encoding="utf-8") as file:
-                file.write(f'#include <stdio.h>\n#include "words.h"\nint main(void) {{\n{puts}    return 0;\n}}\n')
-            flags = ["-I", os.path.join(RELEASE, "examples", "c")]
-            told = answers(built(folder, source, flags=flags))[0].decode().splitlines()
-        count = len(named[0])
-        self.assertEqual(len({*told[:count], "no such status"}), count + 1)
-        self.assertEqual(told[count:], [it.lower().replace("_", "-") for it in named[1]])
-
     @unittest.skipUnless(shutil.which("nm"), "there is no nm")
     def test_the_shared_object_exports_what_it_declares(self):
         told = subprocess.run(["nm", "-D", "--defined-only", SHARED], capture_output=True, text=True, check=True).stdout
@@ -819,6 +802,45 @@ class Python(unittest.TestCase):
             self.assertEqual(library.pathserve_finish(match._handle), api.Status.OTHER)
         with api.TextMatch() as match:
             self.assertEqual(library.pathserve_post_all(match._handle, None, 0), api.Status.OTHER)
+
+    def test_each_number_of_the_header_has_a_text(self):
+        with open(HEADER, encoding="utf-8") as file:
+            header = file.read()
+        blocks = [re.findall(r"PATHSERVE_(\w+) = (\d+)", it) for it in re.findall(r"(?ms)^enum \{.*?^\};", header)]
+        most = int(re.search(r"PATHSERVE_TEXT (\d+)u", header)[1])
+        for call, first in (("status_text", "DONE"), ("refusal_text", "BAD_SHAPE"), ("fault_text", "WRONG_KIND")):
+            block, = (it for it in blocks if it[0][0] == first)
+            texts = [self.api.text_of(call, int(number)) for _, number in block]
+            self.assertEqual(len({*texts, self.api.text_of(call, 99)}), len(block) + 1, call)
+            self.assertLess(max(map(len, texts)), most)
+            if call == "refusal_text":
+                self.assertEqual(texts, [name.lower().replace("_", "-") for name, _ in block])
+        self.assertEqual(self.api.text_of("version_text"), read("VERSION").decode().strip())
+
+    def test_a_bad_line_has_its_cause(self):
+        good = read("examples/skirmish.script").splitlines(keepends=True)
+        causes = {
+            b"\n": "the line must be one JSON value, and is blank",
+            b"[" * 9 + b"]" * 9 + b"\n": "the line must not have arrays and objects more than 8 deep",
+            b'{"caller":0}\n': "the line must ",
+            b"{} // once\n": "byte 4: JSON has no comments",
+        }
+        for bad, cause in causes.items():
+            for before in (0, 1, len(good)):
+                for piece in (1, 7, 1 << 20):
+                    script = b"".join(good[:before]) + bad + b"more"
+                    with self.api.TextMatch() as match:
+                        self.assertEqual(match.cause(), "")
+                        with self.assertRaises(self.api.BadLine) as raised:
+                            for at in range(0, len(script), piece):
+                                match.feed(script[at : at + piece])
+                        self.assertTrue(raised.exception.cause.startswith(cause), raised.exception.cause)
+                        self.assertEqual(match.cause(), raised.exception.cause)
+        with self.api.TextMatch() as match:
+            with self.assertRaises(self.api.BadLine) as raised:
+                match.finish()
+            self.assertEqual(raised.exception.cause, "the script must begin with a map line, and has no line")
+            self.assertEqual(match.cause(), raised.exception.cause)
 
     def test_numbers_that_no_field_holds_are_refused(self):
         api = self.api

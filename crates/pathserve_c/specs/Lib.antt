@@ -1,5 +1,6 @@
 pub mod Answered
 pub mod Calls
+pub mod Causes
 pub mod Checks
 pub mod Fields
 pub mod Finders
@@ -12,4 +13,5 @@ pub mod Sizes
 pub mod Statuses
 pub mod Structs
 pub mod Texts
+pub mod Words
 pub mod inner

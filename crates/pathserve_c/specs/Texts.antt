@@ -4,7 +4,7 @@ use Rattle.posts.specs.declared.notes.Report.{Report}
 use Rattle.match_play.specs.declared.states.MatchState.{MatchState}
 use Rattle.match_play.specs.declared.faults.MatchFault.{MatchFault}
 use Rattle.match_play.specs.declared.faults.MatchFault.TheVariants.{Ended, NoMemory}
-use Rattle.match_play.specs.Playing.{FeedPlays, FinishPlays, HasPlayed, IsOver, TakesAll}
+use Rattle.match_play.specs.Playing.{FeedPlays, FinishPlays, HasPlayed, IsOver, TakesAll, TellsWhy, bad_cause}
 
 -- the match, and the text that was told and not taken yet
 pub record TextState : Type 0 where
@@ -18,7 +18,8 @@ pub record IsUnread (asked : Report) (state : TextState) : Type 0 where
   pub report : state.game.report ≡ asked
   pub waiting : state.waiting ≡ []
 
--- Of a piece, what is left of it was not fed. What was told waits behind what waited. A script that has ended takes nothing.
+-- Of a piece, what is left of it was not fed. What was told waits behind what waited. A script that has ended takes nothing, and a
+-- bad line has its cause.
 pub record Feeds (old new : TextState) (piece left : List ℕ) (answer : Result (Unit {0}) MatchFault) : Type 0 where
   pub plays : FeedPlays old.game new.game piece left answer
   pub all : TakesAll left answer
@@ -26,6 +27,7 @@ pub record Feeds (old new : TextState) (piece left : List ℕ) (answer : Result 
   pub ended : (answer ≡ Err Ended) ↔ IsTrue old.game.ended
   pub kept : answer ≡ Err Ended → (new.game ≡ old.game) × (left ≡ piece)
   pub stays : new.game.ended ≡ old.game.ended
+  pub why : TellsWhy answer (bad_cause new.game)
 
 -- The script has ended. What was told of what was left waits behind what waited.
 pub record Finishes (old new : TextState) (answer : Result (Unit {0}) MatchFault) : Type 0 where
@@ -35,6 +37,7 @@ pub record Finishes (old new : TextState) (answer : Result (Unit {0}) MatchFault
   pub over : answer ≢ Err NoMemory → IsOver new.game
   pub again : (answer ≡ Err Ended) ↔ IsOver old.game
   pub kept : answer ≡ Err Ended → new.game ≡ old.game
+  pub why : TellsWhy answer (bad_cause new.game)
 
 -- So many bytes that waited wait no longer, and but for what waits the match is as it was.
 pub record Takes (old new : TextState) (count : ℕ) : Type 0 where

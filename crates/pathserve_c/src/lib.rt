@@ -8,6 +8,7 @@
 //! call takes the state out, works on it, and puts it back. Nothing here starts threads, and no state is global.
 #![tactic(auto)]
 
+mod causes;
 mod checks;
 mod fields;
 mod finder_calls;
@@ -27,7 +28,9 @@ mod text_matches;
 mod texts;
 mod versions;
 mod views;
+mod words;
 
+pub use causes::pathserve_cause;
 pub use checks::{NOT_ZERO, WRONG_CALLER, WRONG_CLASS, WRONG_GOAL, WRONG_KIND, pathserve_check};
 pub use fields::pathserve_field;
 pub use finder_calls::{
@@ -60,4 +63,7 @@ pub use versions::{ANSWERS, VERSION, pathserve_answers, pathserve_size_of, paths
 pub use views::{
     pathserve_area, pathserve_passable, pathserve_region, pathserve_row, pathserve_view_again,
     pathserve_view_close, pathserve_view_of,
+};
+pub use words::{
+    pathserve_fault_text, pathserve_refusal_text, pathserve_status_text, pathserve_version_text,
 };

@@ -1,12 +1,13 @@
 //! Matches by text, whose text is taken piece by piece.
 ghost use Rattle.std.specs.Prelude.{◌≡◌, drop, length, min, take, IfOk};
-ghost use Rattle.match_play.specs.Playing.{IsView, said_of};
+ghost use Rattle.match_play.specs.Playing.{IsView, bad_cause, said_of};
 ghost use Rattle.pathserve_c.specs.Texts.{Feeds, Finishes, IsUnread, Takes};
 
 use grid_versions::Version;
 use match_play::{Match, MatchFault};
 use nav_types::NoMemory;
 use posts::Report;
+use script_text::Cause;
 use std::alloc::Global;
 use std::marker::Model;
 
@@ -65,6 +66,14 @@ impl TextMatch {
     {
         let _ = self.taken;
         self.game.view(alloc)
+    }
+
+    /// Why the line is bad at which the match has stopped. None where it has met no bad line.
+    pub fn cause(&self, alloc: Global) -> Result<Option<Cause>, NoMemory>
+        ensures { IfOk result (λ why. why ≡ bad_cause self.now.game) }
+    {
+        let _ = self.taken;
+        self.game.cause(alloc)
     }
 
     /// How many bytes of text wait.

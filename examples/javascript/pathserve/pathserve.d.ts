@@ -100,6 +100,8 @@ export function load(source?: string | URL | ArrayBuffer | ArrayBufferView | Web
 /** An instance of the library, with a memory of its own. */
 export class Library {
   constructor(instance: WebAssembly.Instance);
+  /** What the library says of a number, by `status_text` and its like, or of its version, by `version_text`. */
+  textOf(name: "status_text" | "refusal_text" | "fault_text" | "version_text", ...numbers: number[]): string;
   /** A match by the text of its script, as the program plays it with one of the words `REPORTS`. */
   textMatch(report?: Report): TextMatch;
   /** A match on a map, whose turns are posts. */
@@ -123,6 +125,8 @@ export class TextMatch extends Match {
   feed(script: string | Uint8Array): void;
   /** Tells that no more bytes come. */
   finish(): void;
+  /** Why the line is bad at which the match has stopped, as the program says it. Empty as long as no line was bad. */
+  cause(): string;
   /** The bytes that wait. None waits then. */
   take(): Uint8Array;
   /** The text that waits. */

@@ -77,7 +77,7 @@ const REPLY = struct(
   ...all("Uint8", "kind", "caller", "why", "zero"), ...all("Uint32", "post", "id"), ...cell("start"), ...cell("end"), ...cell("chunk"),
   ...all("Uint16", "region", "zeroToo"), ["area", "Uint32"], ...all("BigUint64", "waypoints", "firstWaypoint", "cost"),
 );
-const HANDLE = 16, CLASS = 72, CELL = 4, NAME = 64;
+const HANDLE = 16, CLASS = 72, CELL = 4, NAME = 64, TEXT = 96;
 // in the order of PATHSERVE_SIZE_..
 const SIZES = [HANDLE, HANDLE, MAP.size, CLASS, RECT.size, POST.size, TURN.size, REPLY.size, CELL, HANDLE];
 const LEAST = { Uint8: 0, Uint16: 0, Uint32: 0, Int32: -0x80000000 };
@@ -277,6 +277,13 @@ export class Library {
     return far;
   }
 
+  /** What the library says of a number, by `status_text` and its like, or of its version, by `version_text`. */
+  textOf(name, ...numbers) {
+    const [at] = this.room(TEXT);
+    const count = Number(this.call(name, ...numbers, BigInt(at), BigInt(TEXT)));
+    return new TextDecoder().decode(this.bytes.slice(at, at + count));
+  }
+
   /** A match by the text of its script, as the program plays it with one of the words `REPORTS`. */
   textMatch(report = "replay") {
     return new TextMatch(this, report);
@@ -335,6 +342,17 @@ class Match extends Owner {
     super(library, "close");
   }
 
+  /** The bytes that a function writes to a buffer, once it has told how many they are. */
+  told(name) {
+    const [whole] = this.library.room(8);
+    const status = this.call(name, 0n, 0n, BigInt(whole));
+    if (status !== Status.SMALL) must(status);
+    const count = Number(this.library.data.getBigUint64(whole, true));
+    const [again, at] = this.library.room(8, count);
+    must(this.call(name, BigInt(at), BigInt(count), BigInt(again)));
+    return this.library.bytes.slice(at, at + count);
+  }
+
   /** What stands after the turns that have ended. */
   view() {
     const view = new View(this.library);
@@ -363,6 +381,11 @@ export class TextMatch extends Match {
   /** Tells that no more bytes come. */
   finish() {
     must(this.call("finish"));
+  }
+
+  /** Why the line is bad at which the match has stopped, as the program says it. Empty as long as no line was bad. */
+  cause() {
+    return new TextDecoder().decode(this.told("cause"));
   }
 
   /** The bytes that wait. None waits then. */
@@ -432,13 +455,7 @@ export class PostedMatch extends Match {
 
   /** The turns that have ended as the bytes of a script, which a TextMatch or the program answers alike. */
   journal() {
-    let [whole] = this.library.room(8);
-    const status = this.call("journal", 0n, 0n, BigInt(whole));
-    if (status !== Status.SMALL) must(status);
-    const count = Number(this.library.data.getBigUint64(whole, true));
-    const [again, at] = this.library.room(8, count);
-    must(this.call("journal", BigInt(at), BigInt(count), BigInt(again)));
-    return this.library.bytes.slice(at, at + count);
+    return this.told("journal");
   }
 }
 

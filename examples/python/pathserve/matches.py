@@ -5,7 +5,7 @@ import ctypes
 from typing import Iterable, NamedTuple, Sequence
 
 from . import native
-from .native import BadPost, Fault, OutOfMemory, Status, filled, must
+from .native import BadLine, BadPost, Fault, OutOfMemory, Status, filled, must
 from .owners import Owner
 from .posts import PassabilityClass, Post, Rect, Reply, cell_of, reply_of
 from .views import View
@@ -42,11 +42,27 @@ class TextMatch(_Match):
         status = self._call("feed", its, len(its), taken)
         if status == Status.NO_MEMORY:
             raise OutOfMemory(taken.value)
-        must(status)
+        self._must(status)
 
     def finish(self) -> None:
         """Tells that no more bytes come."""
-        must(self._call("finish"))
+        self._must(self._call("finish"))
+
+    def cause(self) -> str:
+        """Why the line is bad at which the match has stopped, as the program says it. Empty as long as no line was bad."""
+        whole = ctypes.c_size_t()
+        with self._lock:
+            status = self._call("cause", None, 0, whole)
+            if status != Status.SMALL:
+                must(status)
+            buffer = ctypes.create_string_buffer(whole.value)
+            must(self._call("cause", buffer, whole.value, whole))
+        return buffer.raw[: whole.value].decode()
+
+    def _must(self, status: int) -> None:
+        if status == Status.BAD_LINE:
+            raise BadLine(self.cause())
+        must(status)
 
     def take(self) -> bytes:
         """The text that waits. None waits then."""

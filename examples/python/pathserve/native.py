@@ -59,7 +59,11 @@ class BadPost(Failed):
 
 
 class BadLine(Failed):
-    """A line of the script is not in the grammar. The text that waits ends with its number, as `bad line 3`."""
+    """A line of the script is not in the grammar, and why. The text that waits ends with its number, as `bad line 3`."""
+
+    def __init__(self, cause: str) -> None:
+        super().__init__(Status.BAD_LINE, cause)
+        self.cause = cause
 
 
 class MatchHandle(ctypes.Structure):
@@ -128,10 +132,15 @@ CALLS = {
     "version": (c_uint32, []),
     "answers": (c_uint32, []),
     "size_of": (c_size_t, [c_uint32]),
+    "status_text": (c_size_t, [c_uint32, c_void_p, c_size_t]),
+    "refusal_text": (c_size_t, [c_uint32, c_void_p, c_size_t]),
+    "fault_text": (c_size_t, [c_uint32, c_void_p, c_size_t]),
+    "version_text": (c_size_t, [c_void_p, c_size_t]),
     "close": (None, [MATCH]),
     "open": (c_uint32, [MATCH, c_uint32]),
     "feed": (c_uint32, [MATCH, c_void_p, c_size_t, SIZE]),
     "finish": (c_uint32, [MATCH]),
+    "cause": (c_uint32, [MATCH, c_void_p, c_size_t, SIZE]),
     "waiting": (c_size_t, [MATCH]),
     "take": (c_size_t, [MATCH, c_void_p, c_size_t]),
     "open_map": (c_uint32, [MATCH, POINTER(MapStruct), POINTER(ClassStruct), c_size_t, POINTER(RectStruct), c_size_t]),
@@ -178,10 +187,18 @@ def must(status: int) -> None:
     """Raises a status that is not DONE."""
     if status == Status.NO_MEMORY:
         raise OutOfMemory
-    if status == Status.BAD_LINE:
-        raise BadLine(status)
     if status != Status.DONE:
         raise Failed(status)
+
+
+TEXT = 96  # PATHSERVE_TEXT
+
+
+def text_of(name: str, *numbers: int) -> str:
+    """What the library says of a number, by `status_text` and its like, or of its version, by `version_text`."""
+    buffer = ctypes.create_string_buffer(TEXT)
+    count = getattr(load(), "pathserve_" + name)(*numbers, buffer, TEXT)
+    return buffer.raw[:count].decode()
 
 
 SHARED = "pathserve.dll" if os.name == "nt" else "libpathserve.so.0"

@@ -88,6 +88,12 @@ public static class Binding
         }
     }
 
+    private static void TextsOfNumbers()
+    {
+        Must(Texts.Of(Status.Closed) == "the handle is closed" && Texts.Of(Refusal.UnknownId) == "unknown-id", "another text");
+        Must(Texts.Of(PostFault.WrongClass) == "the map has no such class" && Texts.Version().Length > 4, "another text");
+    }
+
     private static void Misuse()
     {
         Reply[] replies = null;
@@ -100,6 +106,10 @@ public static class Binding
             () => new PostedMatch(new Map { Width = 8, Height = 8, Callers = 1 }, new[] { new PassabilityClass(new string('w', 65), 0) }), "a long name");
         Refused(Status.NoMap, () => new TextMatch().View(), "a view of no map");
         Refused(Status.BadLine, () => new TextMatch(Report.Smooth).Feed(new byte[] { 10 }), "an empty line");
+        TextMatch bad = new TextMatch();
+        Must(bad.Cause() == "", "a cause of no bad line");
+        Refused(Status.BadLine, () => bad.Feed(new byte[] { 10 }), "an empty line");
+        Must(bad.Cause() == "the line must be one JSON value, and is blank", "another cause");
         Post unit = Post.AddUnit(0, 7, 1, 4 * Navcell, 4 * Navcell, Navcell), square = Post.AddSquare(0, 8, 1, Navcell, Navcell, 0, Navcell, 9, 5);
         match.Post(unit, square, Post.Move(0, 9, 0, 0));
         match.EndTurn(ref replies, ref cells);
@@ -124,6 +134,7 @@ public static class Binding
     public static void Main()
     {
         LongPaths();
+        TextsOfNumbers();
         Misuse();
         MemoryStream script = new MemoryStream();
         Console.OpenStandardInput().CopyTo(script);

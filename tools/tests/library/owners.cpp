@@ -124,6 +124,13 @@ void edits() {
     holds(match.view().standing().size() == 1 && view.standing().size() == 2, "a view that does not stay");
 }
 
+void texts() {
+    holds(status_text(PATHSERVE_CLOSED) == "the handle is closed", "another text of a status");
+    holds(refusal_text(PATHSERVE_UNKNOWN_ID) == "unknown-id", "another text of a refusal");
+    holds(fault_text(PATHSERVE_WRONG_CLASS) == "the map has no such class", "another text of a fault");
+    holds(version_text().size() > 4 && Failed(PATHSERVE_SMALL).what() == "pathserve: " + status_text(PATHSERVE_SMALL), "another text");
+}
+
 void misuse() {
     Match match = comb(8);
     Finder finder;
@@ -134,6 +141,10 @@ void misuse() {
     refused(PATHSERVE_BAD_VALUE, [] { passability_class(std::string(65, 'w'), 0); }, "a long name");
     refused(PATHSERVE_NO_MAP, [] { TextMatch().view(); }, "a view of no map");
     refused(PATHSERVE_BAD_LINE, [] { TextMatch(PATHSERVE_SMOOTH).feed("\n"); }, "an empty line");
+    TextMatch bad;
+    holds(bad.cause().empty(), "a cause of no bad line");
+    refused(PATHSERVE_BAD_LINE, [&] { bad.feed("\n"); }, "an empty line");
+    holds(bad.cause() == "the line must be one JSON value, and is blank", "another cause");
     View view = match.view();
     for (const Goal &goal : {Goal::circle({navcell, navcell}, navcell), Goal::circle({0, 0}, navcell, true), Goal::obstruction(1, navcell),
                              Goal::rectangle({{navcell, navcell}, {navcell, 0}, navcell, navcell}, true)})
@@ -153,6 +164,7 @@ int main() {
     long_paths();
     fields();
     edits();
+    texts();
     misuse();
     std::string script{std::istreambuf_iterator<char>(std::cin), {}};
     std::cout << answers(script);

@@ -126,6 +126,21 @@ function played(script) {
   return text;
 }
 
+const failed = (status) => (it) => it instanceof its.Failed && it.status === status;
+
+function texts() {
+  const { CLOSED, BAD_LINE } = its.Status;
+  const said = [["status_text", CLOSED], ["refusal_text", 4], ["fault_text", 3]].map((it) => library.textOf(...it));
+  assert.deepEqual(said, ["the handle is closed", "unknown-id", "the map has no such class"]);
+  assert.match(library.textOf("version_text"), /^\d+\.\d+\.\d+$/);
+  const bad = library.textMatch();
+  assert.equal(bad.cause(), "");
+  assert.throws(() => bad.feed("\n"), failed(BAD_LINE));
+  assert.equal(bad.cause(), "the line must be one JSON value, and is blank");
+  bad.close();
+}
+
+texts();
 const given = readFileSync(0), told = [];
 for (let at = 0; at < given.length; ) {
   const end = given.indexOf(10, at), length = Number(given.toString("latin1", at, end));

@@ -134,21 +134,43 @@ static pathserve_status look(pathserve_match *match) {
     return status;
 }
 
-static pathserve_status play_text(void) {
-    pathserve_match match = {0};
-    pathserve_status status;
+/* Feeds bytes in small pieces; after there was no memory, what is left of a piece. */
+static pathserve_status feed_all(pathserve_match *match, const uint8_t *bytes, size_t count) {
+    pathserve_status status = PATHSERVE_DONE;
     size_t at = 0, taken;
-    AGAIN(status, pathserve_open(&match, PATHSERVE_SMOOTH));
-    while (status == PATHSERVE_DONE && at < script_length) {
-        size_t piece = script_length - at < 7 ? script_length - at : 7;
-        status = pathserve_feed(&match, script + at, piece, &taken);
+    while (status == PATHSERVE_DONE && at < count) {
+        size_t piece = count - at < 7 ? count - at : 7;
+        status = pathserve_feed(match, bytes + at, piece, &taken);
         if (status != PATHSERVE_NO_MEMORY && taken != piece) fail("a piece was not taken", first_refused);
         at += taken;
         if (status == PATHSERVE_NO_MEMORY && !refuses_on) status = PATHSERVE_DONE;
     }
+    return status;
+}
+
+static pathserve_status play_text(void) {
+    pathserve_match match = {0};
+    pathserve_status status;
+    AGAIN(status, pathserve_open(&match, PATHSERVE_SMOOTH));
+    if (status == PATHSERVE_DONE) status = feed_all(&match, script, script_length);
     if (status == PATHSERVE_DONE) AGAIN(status, pathserve_finish(&match));
     length += pathserve_take(&match, text + length, sizeof text - length);
     if (status == PATHSERVE_DONE) status = look(&match);
+    pathserve_close(&match);
+    return status;
+}
+
+/* A bad line, and its cause. */
+static pathserve_status play_bad_line(void) {
+    static const uint8_t bad[] = "{\"version\":4}\n";
+    pathserve_match match = {0};
+    pathserve_status status;
+    size_t bytes = 0;
+    AGAIN(status, pathserve_open(&match, PATHSERVE_REPLAY));
+    if (status == PATHSERVE_DONE) status = feed_all(&match, bad, sizeof bad - 1);
+    if (status == PATHSERVE_DONE) AGAIN(status, pathserve_finish(&match));
+    if (status == PATHSERVE_BAD_LINE) AGAIN(status, pathserve_cause(&match, text + length, sizeof text - length, &bytes));
+    if (status == PATHSERVE_DONE) length += bytes;
     pathserve_close(&match);
     return status;
 }
@@ -219,6 +241,7 @@ int main(int count, char **words) {
     script_length = fread(script, 1, sizeof script, file);
     fclose(file);
     size_t by_text = refuse_each(play_text);
-    printf("%zu allocations by text, %zu by structs\n", by_text, refuse_each(play_structs));
+    printf("%zu allocations by text, %zu by structs", by_text, refuse_each(play_structs));
+    printf(", %zu of a bad line\n", refuse_each(play_bad_line));
     return 0;
 }

@@ -55,6 +55,9 @@ pub const NO_MAP: u32 = 20;
 pub const BAD_VALUE: u32 = 21;
 pub const SMALL: u32 = 22;
 
+/// No text has more bytes.
+pub const TEXT: usize = 96;
+
 /// A match: all zero before it is opened, written by the library alone, never copied.
 #[repr(C)]
 pub struct Match {
@@ -168,12 +171,17 @@ extern "C" {
     pub fn pathserve_version() -> u32;
     pub fn pathserve_answers() -> u32;
     pub fn pathserve_size_of(which: u32) -> usize;
+    pub fn pathserve_status_text(status: u32, buffer: *mut u8, length: usize) -> usize;
+    pub fn pathserve_refusal_text(why: u32, buffer: *mut u8, length: usize) -> usize;
+    pub fn pathserve_fault_text(why: u32, buffer: *mut u8, length: usize) -> usize;
+    pub fn pathserve_version_text(buffer: *mut u8, length: usize) -> usize;
 
     pub fn pathserve_close(its: *mut Match);
 
     pub fn pathserve_open(its: *mut Match, report: u32) -> u32;
     pub fn pathserve_feed(its: *mut Match, bytes: *const u8, length: usize, taken: *mut usize) -> u32;
     pub fn pathserve_finish(its: *mut Match) -> u32;
+    pub fn pathserve_cause(its: *mut Match, buffer: *mut u8, length: usize, whole: *mut usize) -> u32;
     pub fn pathserve_waiting(its: *mut Match) -> usize;
     pub fn pathserve_take(its: *mut Match, buffer: *mut u8, length: usize) -> usize;
 

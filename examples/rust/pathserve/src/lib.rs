@@ -71,6 +71,14 @@ fn must(status: u32) -> Result<(), Error> {
     }
 }
 
+/// The version of the library that was linked.
+pub fn version() -> String {
+    let mut text = [0; sys::TEXT];
+    // SAFETY: a buffer with its length.
+    let count = unsafe { sys::pathserve_version_text(text.as_mut_ptr(), text.len()) };
+    String::from_utf8_lossy(&text[..count]).into_owned()
+}
+
 fn same_version() -> Result<(), Error> {
     // SAFETY: these take nothing.
     let (version, answers) = unsafe { (sys::pathserve_version(), sys::pathserve_answers()) };

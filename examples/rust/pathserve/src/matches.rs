@@ -68,6 +68,20 @@ impl TextMatch {
         must(unsafe { sys::pathserve_finish(self.handle()) })
     }
 
+    /// Why the line is bad at which the match has stopped, as the program says it. Empty as long as no line was bad.
+    pub fn cause(&mut self) -> Result<String, Error> {
+        let mut text = Vec::new();
+        loop {
+            let mut whole = 0;
+            // SAFETY: the buffer has its length.
+            let status = unsafe { sys::pathserve_cause(self.handle(), text.as_mut_ptr(), text.len(), &mut whole) };
+            match status {
+                sys::SMALL => text.resize(whole, 0),
+                status => return must(status).map(|()| String::from_utf8_lossy(&text).into_owned()),
+            }
+        }
+    }
+
     /// The text that waits. None waits then.
     pub fn take(&mut self) -> Vec<u8> {
         // SAFETY: the buffer has its length, all of it written.

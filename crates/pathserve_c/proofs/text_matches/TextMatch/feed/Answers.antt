@@ -15,4 +15,5 @@ returns c =
       ended = c.feed.ensures.ended;
       kept = c.feed.ensures.kept;
       stays = c.feed.ensures.stays;
+      why = c.feed.ensures.why;
     })

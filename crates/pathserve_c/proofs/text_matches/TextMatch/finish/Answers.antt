@@ -15,4 +15,5 @@ returns c =
       over = c.finish.ensures.over;
       again = c.finish.ensures.again;
       kept = c.finish.ensures.kept;
+      why = c.finish.ensures.why;
     })
