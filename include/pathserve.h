@@ -7,6 +7,7 @@
  *
  *     by text       pathserve_open       feed, finish          waiting, take, cause
  *     by structs    pathserve_open_map   check, post_all, end_turn   replies, waypoints, journal
+ *                   pathserve_open_grid
  *     to look       pathserve_view_of    passable, region, area, row, nearest, standing_at, standing, find, field,
  *                                        clear, smooth
  *     to find much  pathserve_finder_open   find_with, find_all
@@ -194,6 +195,13 @@ typedef struct pathserve_rect { uint16_t i0, j0, i1, j1, mask, zero; } pathserve
  * until it is closed (docs/C.md, "Memory"); a match by text keeps none. DONE, OPEN, BAD_VALUE, NO_MEMORY. */
 pathserve_status pathserve_open_map(pathserve_match *match, const pathserve_map *map, const pathserve_class *classes,
                                     size_t class_count, const pathserve_rect *base, size_t base_count);
+
+/* The same with the terrain as a grid in place of rectangles: a mask for each cell, that of cell (i, j) at place j * width + i, so
+ * row by row from the south. Bit k of it makes the cell impassable for class k, for good. `count` is width * height. The match
+ * answers like one that was opened with rectangles that block the same cells; its map has a rectangle for each run of cells of
+ * a row with one mask that is not 0. DONE, OPEN, BAD_VALUE, NO_MEMORY. */
+pathserve_status pathserve_open_grid(pathserve_match *match, const pathserve_map *map, const pathserve_class *classes,
+                                     size_t class_count, const uint16_t *masks, size_t count);
 
 enum { /* pathserve_post.kind */
     PATHSERVE_ADD_UNIT = 1,   /* add an obstruction: a square along the axes. id, mask, x, z, radius (its half side) */

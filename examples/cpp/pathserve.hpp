@@ -428,6 +428,13 @@ class Match {
         must(pathserve_open_map(get(), &map, classes.data(), classes.size(), base.data(), base.size()));
     }
 
+    // The same with the terrain as a grid of masks, that of cell (i, j) at place j * width + i.
+    static Match on_grid(const Map &map, const std::vector<PassabilityClass> &classes, const std::vector<std::uint16_t> &masks) {
+        Match made;
+        must(pathserve_open_grid(made.get(), &map, classes.data(), classes.size(), masks.data(), masks.size()));
+        return made;
+    }
+
     // Adds posts to the turn: all or none.
     void post(const Post &post) { must(pathserve_post_all(get(), &post, 1)); }
     void post(const std::vector<Post> &posts) { must(pathserve_post_all(get(), posts.data(), posts.size())); }
@@ -460,6 +467,8 @@ class Match {
     pathserve_match *get() noexcept { return owner.get(); }
 
   private:
+    Match() = default;
+
     detail::Owner<pathserve_match, pathserve_close> owner;
 };
 

@@ -237,6 +237,8 @@ namespace Pathserve
 
         [DllImport(Library)] internal static extern Status pathserve_open_map(
             ref Handle match, ref Map map, [In] PassabilityClass[] classes, UIntPtr classCount, [In] Rect[] walls, UIntPtr wallCount);
+        [DllImport(Library)] internal static extern Status pathserve_open_grid(
+            ref Handle match, ref Map map, [In] PassabilityClass[] classes, UIntPtr classCount, [In] ushort[] masks, UIntPtr count);
         [DllImport(Library)] internal static extern Status pathserve_post_all(ref Handle match, [In] Post[] posts, UIntPtr count);
         [DllImport(Library)] internal static extern Status pathserve_check(
             ref Handle match, [In] Post[] posts, UIntPtr count, ref UIntPtr which, ref PostFault why);
@@ -367,6 +369,12 @@ namespace Pathserve
         public PostedMatch(Map map, PassabilityClass[] classes, Rect[] walls = null)
         {
             Native.Must(Native.pathserve_open_map(ref handle, ref map, classes, Native.Count(classes), walls, Native.Count(walls)));
+        }
+
+        /// <summary>The same with the terrain as a grid of masks, that of cell (i, j) at place j * width + i.</summary>
+        public PostedMatch(Map map, PassabilityClass[] classes, ushort[] masks)
+        {
+            Native.Must(Native.pathserve_open_grid(ref handle, ref map, classes, Native.Count(classes), masks, Native.Count(masks)));
         }
 
         /// <summary>Posts, after those that the turn has: all or none.</summary>

@@ -842,6 +842,37 @@ class Python(unittest.TestCase):
             self.assertEqual(raised.exception.cause, "the script must begin with a map line, and has no line")
             self.assertEqual(match.cause(), raised.exception.cause)
 
+    def test_a_grid_of_masks_blocks_what_its_rectangles_do(self):
+        played = 0
+        for posted, text in self.said(150):
+            width, height = posted.size
+            masks = [0] * (width * height)
+            for rect in posted.base:
+                for j in range(rect.j0, rect.j1 + 1):
+                    for i in range(rect.i0, rect.i1 + 1):
+                        masks[j * width + i] |= rect.mask
+            with self.api.PostedMatch(*posted.size, posted.callers, posted.classes, masks=masks) as match:
+                told = ""
+                for posts in posted.turns:
+                    match.post(posts)
+                    told += text_of(match.end_turn())
+                self.assertEqual(told.encode(), text)
+                self.assertEqual(self.by_text(match.journal()), (text, 0))
+            played += bool(posted.base)
+        self.assertGreater(played, 5)
+
+    def test_a_grid_that_is_none_is_refused(self):
+        api = self.api
+        classes = [api.PassabilityClass("walker", 0)]
+        for size, count in (((12, 8), 95), ((12, 8), 97), ((12, 8), 0), ((0, 8), 0), ((2049, 1), 2049)):
+            with self.assertRaises(api.Failed) as raised:
+                api.PostedMatch(*size, 1, classes, masks=[0] * count)
+            self.assertEqual(raised.exception.status, api.Status.BAD_VALUE)
+        with self.assertRaises(ValueError):
+            api.PostedMatch(1, 1, 1, classes, masks=[65536])
+        with api.PostedMatch(3, 2, 1, classes, masks=[1, 0, 1, 2, 65535, 0]) as match, match.view() as view:
+            self.assertEqual([view.passable(0, i, j) for j in range(2) for i in range(3)], [False, True, False, True, False, True])
+
     def test_numbers_that_no_field_holds_are_refused(self):
         api = self.api
         classes = [api.PassabilityClass("walker", api.fixed(0.5))]

@@ -154,7 +154,7 @@ class Clients(unittest.TestCase):
         program = self.built("tools/tests/library/refused.c", "libpathserve_noheap.a")
         told, status = self.told(program, words=["Z:" + os.path.join(TOP, "examples", "skirmish.script")])
         self.assertEqual(status, 0, told)
-        self.assertRegex(told, rb"^\d{2,} allocations by text, \d{2,} by structs, \d+ of a bad line\n$")
+        self.assertRegex(told, rb"^\d{2,} allocations by text, \d{2,} by structs, \d{2,} by a grid, \d+ of a bad line\n$")
 
     def test_threads_with_views(self):
         self.assertEqual(self.told(self.built("tools/tests/library/threads.c", flags=["-pthread", "-static"])), (b"", 0))

@@ -2,6 +2,8 @@ mod AsBox
 mod Asking
 mod Feeding
 mod FieldLaws
+mod Gridded
+mod MaskRows
 mod Places
 mod Sighted
 mod Starts

@@ -5,6 +5,7 @@ pub mod Checks
 pub mod Fields
 pub mod Finders
 pub mod Finds
+pub mod Grids
 pub mod Handles
 pub mod Listings
 pub mod Questions

@@ -2,4 +2,5 @@
 pub mod Codes
 pub mod Owned
 pub mod PathFields
+pub mod Runs
 pub mod Smoothings

@@ -14,6 +14,7 @@ mod fields;
 mod finder_calls;
 mod finders;
 mod finds;
+mod grids;
 mod handles;
 mod held;
 mod listings;
@@ -38,6 +39,7 @@ pub use finder_calls::{
 };
 pub use finders::Finder;
 pub use finds::pathserve_find;
+pub use grids::pathserve_open_grid;
 pub use handles::{Handle, handles_may_cross};
 pub use held::Held;
 pub use listings::pathserve_standing;

@@ -88,6 +88,8 @@ export interface MapOfMatch {
   callers: number;
   classes: { name: string; clearance: number }[];
   base?: { i0: number; j0: number; i1: number; j1: number; mask: number }[];
+  /** In place of `base`: a mask for each cell, that of cell (i, j) at place j * width + i. */
+  masks?: readonly number[] | Uint16Array;
 }
 
 /** The words of the program that answer a script, each at its number. */

@@ -77,7 +77,7 @@ const REPLY = struct(
   ...all("Uint8", "kind", "caller", "why", "zero"), ...all("Uint32", "post", "id"), ...cell("start"), ...cell("end"), ...cell("chunk"),
   ...all("Uint16", "region", "zeroToo"), ["area", "Uint32"], ...all("BigUint64", "waypoints", "firstWaypoint", "cost"),
 );
-const HANDLE = 16, CLASS = 72, CELL = 4, NAME = 64, TEXT = 96;
+const HANDLE = 16, CLASS = 72, CELL = 4, NAME = 64, MASK = 2, TEXT = 96;
 // in the order of PATHSERVE_SIZE_..
 const SIZES = [HANDLE, HANDLE, MAP.size, CLASS, RECT.size, POST.size, TURN.size, REPLY.size, CELL, HANDLE];
 const LEAST = { Uint8: 0, Uint16: 0, Uint32: 0, Int32: -0x80000000 };
@@ -404,14 +404,21 @@ export class TextMatch extends Match {
 
 /** A match by posts: see `Library.postedMatch`. */
 export class PostedMatch extends Match {
-  constructor(library, { width, height, callers, classes, base = [] }) {
+  constructor(library, { width, height, callers, classes, base = [], masks = null }) {
     super(library);
-    const [map, itsClasses, itsBase] = library.room(MAP.size, CLASS * classes.length, RECT.size * base.length);
+    const terrain = masks ? MASK * masks.length : RECT.size * base.length;
+    const [map, itsClasses, itsTerrain] = library.room(MAP.size, CLASS * classes.length, terrain);
     library.write(map, MAP, { width, height, callers });
     classes.forEach((it, n) => this.#writeClass(itsClasses + CLASS * n, it));
-    base.forEach((it, n) => library.write(itsBase + RECT.size * n, RECT, it));
-    const words = [map, itsClasses, classes.length, itsBase, base.length];
-    this.opened(this.call("open_map", ...words.map(BigInt)));
+    if (masks) this.#writeMasks(itsTerrain, masks);
+    else base.forEach((it, n) => library.write(itsTerrain + RECT.size * n, RECT, it));
+    const words = [map, itsClasses, classes.length, itsTerrain, (masks ?? base).length];
+    this.opened(this.call(masks ? "open_grid" : "open_map", ...words.map(BigInt)));
+  }
+
+  #writeMasks(at, masks) {
+    const { data } = this.library;
+    masks.forEach((it, n) => data.setUint16(at + MASK * n, fitting("mask", "Uint16", it), true));
   }
 
   #writeClass(at, { name, clearance }) {

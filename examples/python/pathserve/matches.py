@@ -83,17 +83,35 @@ class Turn(NamedTuple):
     replies: list[Reply]
 
 
+def _masks_of(masks: Sequence[int]) -> ctypes.Array:
+    """The masks as the library takes them. ValueError where one has more than 16 bits, of which ctypes would keep the low ones."""
+    if any(not 0 <= it < 1 << 16 for it in masks):
+        raise ValueError("a mask has 16 bits")
+    return (ctypes.c_uint16 * len(masks))(*masks)
+
+
 class PostedMatch(_Match):
     """A match on a map, whose turns are posts."""
 
     def __init__(
-        self, width: int, height: int, callers: int, classes: Sequence[PassabilityClass], base: Sequence[Rect] = ()
+        self,
+        width: int,
+        height: int,
+        callers: int,
+        classes: Sequence[PassabilityClass],
+        base: Sequence[Rect] = (),
+        masks: Sequence[int] | None = None,
     ) -> None:
+        """What is impassable from the start stands in `base`, or else in `masks`: a mask for each cell, that of cell (i, j) at
+        place j * width + i."""
         super().__init__()
         its_classes = (native.ClassStruct * len(classes))(*[it.struct() for it in classes])
         its_base = (native.RectStruct * len(base))(*[it.struct() for it in base])
         its_map = filled(native.MapStruct, width=width, height=height, callers=callers)
-        must(self._call("open_map", its_map, its_classes, len(classes), its_base, len(base)))
+        if masks is None:
+            must(self._call("open_map", its_map, its_classes, len(classes), its_base, len(base)))
+        else:
+            must(self._call("open_grid", its_map, its_classes, len(classes), _masks_of(masks), len(masks)))
 
     def post(self, posts: Iterable[Post]) -> None:
         """Posts, behind those that the turn has: all or none. BadPost where one of them is no post of the map."""

@@ -144,6 +144,7 @@ CALLS = {
     "waiting": (c_size_t, [MATCH]),
     "take": (c_size_t, [MATCH, c_void_p, c_size_t]),
     "open_map": (c_uint32, [MATCH, POINTER(MapStruct), POINTER(ClassStruct), c_size_t, POINTER(RectStruct), c_size_t]),
+    "open_grid": (c_uint32, [MATCH, POINTER(MapStruct), POINTER(ClassStruct), c_size_t, POINTER(c_uint16), c_size_t]),
     "post_all": (c_uint32, [MATCH, POINTER(PostStruct), c_size_t]),
     "check": (c_uint32, [MATCH, POINTER(PostStruct), c_size_t, SIZE, POINTER(c_uint32)]),
     "end_turn": (c_uint32, [MATCH, POINTER(TurnStruct)]),

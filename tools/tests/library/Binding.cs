@@ -88,10 +88,18 @@ public static class Binding
         }
     }
 
-    private static void TextsOfNumbers()
+    private static void TextsAndGrids()
     {
         Must(Texts.Of(Status.Closed) == "the handle is closed" && Texts.Of(Refusal.UnknownId) == "unknown-id", "another text");
         Must(Texts.Of(PostFault.WrongClass) == "the map has no such class" && Texts.Version().Length > 4, "another text");
+        Map map = new Map { Width = 3, Height = 2, Callers = 1 };
+        PassabilityClass[] walker = { new PassabilityClass("walker", 0) };
+        Refused(Status.BadValue, () => new PostedMatch(map, walker, new ushort[] { 1, 0, 1, 2, 3 }), "too few masks");
+        using (PostedMatch match = new PostedMatch(map, walker, new ushort[] { 1, 0, 1, 2, 3, 0 }))
+        using (View view = match.View())
+        {
+            Must(!view.Passable(0, 0, 0) && view.Passable(0, 1, 0) && view.Passable(0, 0, 1) && !view.Passable(0, 1, 1), "other cells");
+        }
     }
 
     private static void Misuse()
@@ -134,7 +142,7 @@ public static class Binding
     public static void Main()
     {
         LongPaths();
-        TextsOfNumbers();
+        TextsAndGrids();
         Misuse();
         MemoryStream script = new MemoryStream();
         Console.OpenStandardInput().CopyTo(script);

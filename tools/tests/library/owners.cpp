@@ -131,6 +131,14 @@ void texts() {
     holds(version_text().size() > 4 && Failed(PATHSERVE_SMALL).what() == "pathserve: " + status_text(PATHSERVE_SMALL), "another text");
 }
 
+void grids() {
+    const Map map = {3, 2, 1};
+    Match match = Match::on_grid(map, {passability_class("walker", 0)}, {1, 0, 1, 2, 3, 0});
+    View view = match.view();
+    holds(!view.passable(0, {0, 0}) && view.passable(0, {1, 0}) && view.passable(0, {0, 1}) && !view.passable(0, {1, 1}), "other cells");
+    refused(PATHSERVE_BAD_VALUE, [&] { Match::on_grid(map, {passability_class("walker", 0)}, {1, 0, 1, 2, 3}); }, "too few masks");
+}
+
 void misuse() {
     Match match = comb(8);
     Finder finder;
@@ -165,6 +173,7 @@ int main() {
     fields();
     edits();
     texts();
+    grids();
     misuse();
     std::string script{std::istreambuf_iterator<char>(std::cin), {}};
     std::cout << answers(script);

@@ -127,6 +127,7 @@ function played(script) {
 }
 
 const failed = (status) => (it) => it instanceof its.Failed && it.status === status;
+const WALKER = { width: 3, height: 2, callers: 1, classes: [{ name: "walker", clearance: 0 }] };
 
 function texts() {
   const { CLOSED, BAD_LINE } = its.Status;
@@ -140,7 +141,18 @@ function texts() {
   bad.close();
 }
 
+function grids() {
+  const match = library.postedMatch({ ...WALKER, masks: [1, 0, 1, 2, 3, 0] }), view = match.view();
+  const cells = [0, 1].flatMap((j) => [0, 1, 2].map((i) => view.passable(0, i, j)));
+  assert.deepEqual(cells, [false, true, false, true, false, true]);
+  assert.throws(() => library.postedMatch({ ...WALKER, masks: [1, 0, 1, 2, 3] }), failed(its.Status.BAD_VALUE));
+  assert.throws(() => library.postedMatch({ ...WALKER, masks: [1, 0, 1, 2, 3, 65536] }), RangeError);
+  view.close();
+  match.close();
+}
+
 texts();
+grids();
 const given = readFileSync(0), told = [];
 for (let at = 0; at < given.length; ) {
   const end = given.indexOf(10, at), length = Number(given.toString("latin1", at, end));

@@ -178,6 +178,7 @@ static pathserve_status play_bad_line(void) {
 static const pathserve_map map = {12, 8, 2};
 static const pathserve_class classes[2] = {{"infantry", 8, 32768}, {"siege", 5, 98304}};
 static const pathserve_rect north = {0, 7, 11, 7, 3, 0};
+static uint16_t masks[96];
 
 static pathserve_status play_turn(pathserve_match *match, const pathserve_post *posts, size_t count) {
     pathserve_status status;
@@ -193,7 +194,7 @@ static pathserve_status play_turn(pathserve_match *match, const pathserve_post *
     return status;
 }
 
-static pathserve_status play_structs(void) {
+static pathserve_status play_posts(int is_grid) {
     const pathserve_post first[] = {
         {.kind = PATHSERVE_ADD_SQUARE, .id = 1, .mask = 3, .x = 393216, .z = 196608, .ux = 65536, .hw = 32768, .hh = 131072},
         {.kind = PATHSERVE_PATH, .goal = PATHSERVE_OBSTRUCTION, .id = 1, .x = 98304, .z = 98304, .radius = 65536},
@@ -205,7 +206,8 @@ static pathserve_status play_structs(void) {
     pathserve_match match = {0};
     pathserve_status status;
     size_t bytes = 0;
-    AGAIN(status, pathserve_open_map(&match, &map, classes, 2, &north, 1));
+    AGAIN(status, is_grid ? pathserve_open_grid(&match, &map, classes, 2, masks, 96)
+                          : pathserve_open_map(&match, &map, classes, 2, &north, 1));
     if (status == PATHSERVE_DONE) status = play_turn(&match, first, 4);
     if (status == PATHSERVE_DONE) status = play_turn(&match, second, 3);
     if (status == PATHSERVE_DONE) status = look(&match);
@@ -213,6 +215,14 @@ static pathserve_status play_structs(void) {
     if (status == PATHSERVE_DONE) tell(journal, bytes);
     pathserve_close(&match);
     return status;
+}
+
+static pathserve_status play_structs(void) { return play_posts(0); }
+
+/* The same on a grid that blocks what the rectangle does. */
+static pathserve_status play_grid(void) {
+    for (size_t i = 0; i < 12; i++) masks[7 * 12 + i] = 3;
+    return play_posts(1);
 }
 
 static size_t refuse_each(pathserve_status (*play)(void)) {
@@ -242,6 +252,6 @@ int main(int count, char **words) {
     fclose(file);
     size_t by_text = refuse_each(play_text);
     printf("%zu allocations by text, %zu by structs", by_text, refuse_each(play_structs));
-    printf(", %zu of a bad line\n", refuse_each(play_bad_line));
+    printf(", %zu by a grid, %zu of a bad line\n", refuse_each(play_grid), refuse_each(play_bad_line));
     return 0;
 }

@@ -193,6 +193,14 @@ extern "C" {
         base: *const Rect,
         base_count: usize,
     ) -> u32;
+    pub fn pathserve_open_grid(
+        its: *mut Match,
+        map: *const Map,
+        classes: *const Class,
+        class_count: usize,
+        masks: *const u16,
+        count: usize,
+    ) -> u32;
     pub fn pathserve_post_all(its: *mut Match, posts: *const Post, count: usize) -> u32;
     pub fn pathserve_check(its: *mut Match, posts: *const Post, count: usize, which: *mut usize, why: *mut u32) -> u32;
     pub fn pathserve_end_turn(its: *mut Match, turn: *mut Turn) -> u32;

@@ -17,6 +17,7 @@ fn main() -> Result<(), Error> {
     assert_eq!((view.standing_at(1), view.standing_at(2)), (Some(add), None));
     assert_eq!(view.nearest(0, fixed(1.5), fixed(1.5)), Some(Cell { i: 1, j: 1 }));
     assert_eq!(view.nearest(1, fixed(1.5), fixed(1.5)), None);
+    assert_eq!(grid()?, [false, true, true, false]);
     assert_eq!(why_a_blank_line_is_bad()?, "the line must be one JSON value, and is blank");
     println!("by pathserve {}", pathserve::version());
     let found = thread::spawn(move || view.find(&ask)).join().expect("a thread")?;
@@ -28,4 +29,11 @@ fn why_a_blank_line_is_bad() -> Result<String, Error> {
     let mut game = TextMatch::open(Report::Replay)?;
     assert_eq!(game.feed(b"\n"), Err(Error::BadLine));
     game.cause()
+}
+
+/// Which cells of a map of two rows are passable whose terrain is a grid of masks.
+fn grid() -> Result<Vec<bool>, Error> {
+    let mut game = PostedMatch::open_grid(2, 2, 1, &[Class::new("infantry", 0)], &[1, 0, 2, 3])?;
+    let mut view = game.view()?;
+    Ok((0..2).flat_map(|j| (0..2).map(move |i| (i, j))).map(|(i, j)| view.passable(0, i, j)).collect())
 }

@@ -163,6 +163,24 @@ impl PostedMatch {
         Ok(PostedMatch(owned))
     }
 
+    /// The same with the terrain as a grid of masks, that of cell (i, j) at place j * width + i.
+    pub fn open_grid(
+        width: u32,
+        height: u32,
+        callers: u32,
+        classes: &[Class],
+        masks: &[u16],
+    ) -> Result<PostedMatch, Error> {
+        let mut owned = Owned::closed()?;
+        let map = sys::Map { width, height, callers };
+        let classes: Vec<sys::Class> = classes.iter().map(Class::raw).collect::<Option<_>>().ok_or(Error::BadValue)?;
+        // SAFETY: a closed handle that is all zero, and slices with their lengths.
+        must(unsafe {
+            sys::pathserve_open_grid(&mut owned.0, &map, classes.as_ptr(), classes.len(), masks.as_ptr(), masks.len())
+        })?;
+        Ok(PostedMatch(owned))
+    }
+
     /// Posts, behind those that the turn has: all or none.
     pub fn post(&mut self, posts: &[Post]) -> Result<(), Error> {
         let posts: Vec<sys::Post> = posts.iter().map(Post::raw).collect();
