@@ -7,7 +7,7 @@
  *
  *     by text       pathserve_open       feed, finish          waiting, take, cause
  *     by structs    pathserve_open_map   check, post_all, end_turn   replies, waypoints, journal
- *                   pathserve_open_grid
+ *                   pathserve_open_grid  limit_posts
  *     to look       pathserve_view_of    passable, region, area, row, nearest, standing_at, standing, find, field,
  *                                        clear, smooth
  *     to find much  pathserve_finder_open   find_with, find_all
@@ -91,7 +91,8 @@ enum {
     PATHSERVE_ENDED = 19,     /* pathserve_finish has ended the script */
     PATHSERVE_NO_MAP = 20,    /* the script's map line has not been fed yet */
     PATHSERVE_BAD_VALUE = 21, /* an unknown kind, number or size, or an unused field that is not 0 */
-    PATHSERVE_SMALL = 22      /* the buffer is too small: nothing was written, and the size that is needed was */
+    PATHSERVE_SMALL = 22,     /* the buffer is too small: nothing was written, and the size that is needed was */
+    PATHSERVE_PAST_LIMIT = 23 /* more than a limit that was set: nothing was taken */
 };
 
 /* Any status but DONE leaves a handle as it was, except the two of a script (BAD_LINE, TOO_LONG) and where a call says
@@ -364,8 +365,14 @@ PATHSERVE_MAKER pathserve_post pathserve_make_path_to_obstruction(uint8_t caller
  * never in the order in which two callers posted. DONE: all were taken. BAD_VALUE: an unknown kind, goal, caller or class, or
  * an unused field that is not 0; none was taken, and pathserve_check says which. A value past any other limit is taken, and
  * its reply is a refusal.
- * NO_MEMORY: none was taken. CLOSED, OTHER. */
+ * PAST_LIMIT: with them more posts would wait than pathserve_limit_posts lets; none was taken. NO_MEMORY: none was taken.
+ * CLOSED, OTHER. */
 pathserve_status pathserve_post_all(pathserve_match *match, const pathserve_post *posts, size_t count);
+
+/* Lets at most so many posts wait for the end of a turn, those of all callers together. From then on pathserve_post_all refuses
+ * with PAST_LIMIT exactly the posts with which there would be more, before it looks at them. Posts that wait already stay. No
+ * answer changes. A match has no limit until one is set; SIZE_MAX is none. DONE, CLOSED, OTHER. */
+pathserve_status pathserve_limit_posts(pathserve_match *match, size_t most);
 
 enum { /* what pathserve_check finds wrong with a post: the first of these, in this order */
     PATHSERVE_WRONG_KIND = 1,   /* an unknown kind of posts */

@@ -435,6 +435,9 @@ class Match {
         return made;
     }
 
+    // Lets at most so many posts wait for the end of a turn.
+    void limit_posts(std::size_t most) { must(pathserve_limit_posts(get(), most)); }
+
     // Adds posts to the turn: all or none.
     void post(const Post &post) { must(pathserve_post_all(get(), &post, 1)); }
     void post(const std::vector<Post> &posts) { must(pathserve_post_all(get(), posts.data(), posts.size())); }

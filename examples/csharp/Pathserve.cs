@@ -16,7 +16,7 @@ namespace Pathserve
     public enum Status : uint
     {
         Done = 0, BadLine = 3, NoMemory = 6, TooLong = 7, Closed = 16, Open = 17, Other = 18, Ended = 19, NoMap = 20, BadValue = 21,
-        Small = 22
+        Small = 22, PastLimit = 23
     }
 
     public enum Report : uint { Replay = 0, Profile = 1, Flow = 2, Smooth = 3 }
@@ -239,6 +239,7 @@ namespace Pathserve
             ref Handle match, ref Map map, [In] PassabilityClass[] classes, UIntPtr classCount, [In] Rect[] walls, UIntPtr wallCount);
         [DllImport(Library)] internal static extern Status pathserve_open_grid(
             ref Handle match, ref Map map, [In] PassabilityClass[] classes, UIntPtr classCount, [In] ushort[] masks, UIntPtr count);
+        [DllImport(Library)] internal static extern Status pathserve_limit_posts(ref Handle match, UIntPtr most);
         [DllImport(Library)] internal static extern Status pathserve_post_all(ref Handle match, [In] Post[] posts, UIntPtr count);
         [DllImport(Library)] internal static extern Status pathserve_check(
             ref Handle match, [In] Post[] posts, UIntPtr count, ref UIntPtr which, ref PostFault why);
@@ -376,6 +377,9 @@ namespace Pathserve
         {
             Native.Must(Native.pathserve_open_grid(ref handle, ref map, classes, Native.Count(classes), masks, Native.Count(masks)));
         }
+
+        /// <summary>Lets at most so many posts wait for the end of a turn.</summary>
+        public void LimitPosts(ulong most) { Native.Must(Native.pathserve_limit_posts(ref handle, (UIntPtr)most)); }
 
         /// <summary>Posts, after those that the turn has: all or none.</summary>
         public void Post(params Post[] posts) { Native.Must(Native.pathserve_post_all(ref handle, posts, Native.Count(posts))); }

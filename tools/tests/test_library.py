@@ -873,6 +873,31 @@ class Python(unittest.TestCase):
         with api.PostedMatch(3, 2, 1, classes, masks=[1, 0, 1, 2, 65535, 0]) as match, match.view() as view:
             self.assertEqual([view.passable(0, i, j) for j in range(2) for i in range(3)], [False, True, False, True, False, True])
 
+    def test_a_limit_refuses_exactly_the_posts_past_it(self):
+        api = self.api
+        with api.PostedMatch(4, 4, 1, [api.PassabilityClass("walker", 0)]) as match:
+            ask = api.region(0, 0, 0, 0)
+            match.limit_posts(3)
+            for turn in range(2):
+                for posts, fits in (([ask] * 4, False), ([ask] * 2, True), ([ask] * 2, False), ([ask], True), ([ask], False), ([], True)):
+                    if fits:
+                        match.post(posts)
+                        continue
+                    with self.assertRaises(api.Failed) as raised:
+                        match.post(posts)
+                    self.assertEqual(raised.exception.status, api.Status.PAST_LIMIT)
+                with self.assertRaises(api.Failed) as raised:
+                    match.post([ask._replace(kind=9)])
+                self.assertEqual(raised.exception.status, api.Status.PAST_LIMIT)
+                self.assertEqual(len(match.end_turn().replies), 3, turn)
+            match.limit_posts(1 << 40)
+            match.post([ask] * 4)
+            match.limit_posts(0)
+            self.assertEqual(len(match.end_turn().replies), 4)
+        with api.TextMatch() as match, self.assertRaises(api.Failed) as raised:
+            api.native.must(match._call("limit_posts", 1))
+        self.assertEqual(raised.exception.status, api.Status.OTHER)
+
     def test_numbers_that_no_field_holds_are_refused(self):
         api = self.api
         classes = [api.PassabilityClass("walker", api.fixed(0.5))]

@@ -1,5 +1,5 @@
 -- What calls make of what a handle holds.
-use Rattle.std.specs.Prelude.{ℕ, ◌≡◌, ◌≢◌, ◌<◌, ◌⊎◌, List, [], ◌∷◌, ◌++◌, length, drop, slice_get, Option, Some, None, option_map, Result}
+use Rattle.std.specs.Prelude.{ℕ, ◌≡◌, ◌≢◌, ◌<◌, ◌⊎◌, Bool, true, false, List, [], ◌∷◌, ◌++◌, length, drop, slice_get, Option, Some, None, option_map, Result}
 use Rattle.std.specs.List.{Contains}
 use Rattle.posts.specs.Maps.{Map}
 use Rattle.posts.specs.declared.notes.Report.{Report}
@@ -19,9 +19,9 @@ use Rattle.flat_posts.specs.Maps.{IsMapOf}
 use Rattle.flat_posts.specs.Replies.{flat_turn}
 use Rattle.pathserve_c.specs.declared.states.State.{State}
 use Rattle.pathserve_c.specs.declared.states.State.TheVariants.{Text, Structs, View, Finder}
-use Rattle.pathserve_c.specs.declared.statuses.TheConstants.{DONE, NO_MEMORY, CLOSED, OPEN, NO_MAP, BAD_VALUE, SMALL}
+use Rattle.pathserve_c.specs.declared.statuses.TheConstants.{DONE, NO_MEMORY, CLOSED, OPEN, NO_MAP, BAD_VALUE, SMALL, PAST_LIMIT}
 use Rattle.pathserve_c.specs.Statuses.{refusal, status_of, status_of_posts}
-use Rattle.pathserve_c.specs.Structs.{StructState, Ends, IsNew, PostsAs, script_of, standing_in}
+use Rattle.pathserve_c.specs.Structs.{StructState, Ends, IsNew, has_room, PostsAs, script_of, standing_in}
 use Rattle.pathserve_c.specs.declared.statuses.PostFault.{PostFault}
 use Rattle.pathserve_c.specs.Texts.{TextState, IsUnread, Feeds, Finishes, Takes}
 
@@ -124,14 +124,19 @@ abbrev pub IsOpenedOn : FlatMap → List FlatClass → List FlatRect → Option 
 IsOpenedOn frame classes base (Some state) new status = IsRefused OPEN (Some state) new status
 IsOpenedOn frame classes base None new status = IsMadeOn frame classes base new status
 
--- posts were taken by a match by structs; anything else refuses
+-- posts were taken, or refused for what they are; where more would wait than may, all were refused
+abbrev pub IsPostedTo : Bool → StructState → Option State → List FlatPost → ℕ → Type 0
+IsPostedTo false old new flats status = IsRefused PAST_LIMIT (Some (Structs old)) new status
+IsPostedTo true old new flats status = (made : StructState) × ((answer : Result (Unit {0}) PostFault)
+    × ((new ≡ Some (Structs made)) × ((status ≡ status_of_posts answer) × PostsAs old made flats answer)))
+
+-- posts came to a match by structs; anything else refuses
 abbrev pub IsPosted : Option State → Option State → List FlatPost → ℕ → Type 0
 IsPosted None new flats status = IsRefused (refusal None) None new status
 IsPosted (Some (Text text)) new flats status = IsRefused (refusal (Some (Text text))) (Some (Text text)) new status
 IsPosted (Some (View version)) new flats status = IsRefused (refusal (Some (View version))) (Some (View version)) new status
 IsPosted (Some (Finder finder)) new flats status = IsRefused (refusal (Some (Finder finder))) (Some (Finder finder)) new status
-IsPosted (Some (Structs old)) new flats status = (made : StructState) × ((answer : Result (Unit {0}) PostFault)
-    × ((new ≡ Some (Structs made)) × ((status ≡ status_of_posts answer) × PostsAs old made flats answer)))
+IsPosted (Some (Structs old)) new flats status = IsPostedTo (has_room old (length flats)) old new flats status
 
 -- The turn has ended, and was told.
 pub record HasEnded (old new : StructState) (turn : FlatTurn) (status : ℕ) : Type 0 where

@@ -7,6 +7,7 @@ pub mod Finders
 pub mod Finds
 pub mod Grids
 pub mod Handles
+pub mod Limits
 pub mod Listings
 pub mod Questions
 pub mod Sights

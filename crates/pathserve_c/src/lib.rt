@@ -17,6 +17,7 @@ mod finds;
 mod grids;
 mod handles;
 mod held;
+mod limits;
 mod listings;
 mod questions;
 mod raw_box;
@@ -42,14 +43,15 @@ pub use finds::pathserve_find;
 pub use grids::pathserve_open_grid;
 pub use handles::{Handle, handles_may_cross};
 pub use held::Held;
+pub use limits::pathserve_limit_posts;
 pub use listings::pathserve_standing;
 pub use questions::{pathserve_nearest, pathserve_standing_at};
 pub use raw_box::RawBox;
 pub use sights::{pathserve_clear, pathserve_smooth};
 pub use states::State;
 pub use statuses::{
-    BAD_LINE, BAD_VALUE, CLOSED, DONE, ENDED, NO_MAP, NO_MEMORY, OPEN, OTHER, PostFault, SMALL,
-    TOO_LONG, status_of, status_of_posts,
+    BAD_LINE, BAD_VALUE, CLOSED, DONE, ENDED, NO_MAP, NO_MEMORY, OPEN, OTHER, PAST_LIMIT,
+    PostFault, SMALL, TOO_LONG, status_of, status_of_posts,
 };
 pub use struct_matches::StructMatch;
 pub use structs::{

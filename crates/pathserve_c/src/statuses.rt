@@ -37,6 +37,9 @@ pub const BAD_VALUE: u32 = 21;
 /// The buffer is too small.
 pub const SMALL: u32 = 22;
 
+/// More than a limit lets that was set.
+pub const PAST_LIMIT: u32 = 23;
+
 /// The status that tells how far a match came.
 pub fn status_of(answer: Result<(), MatchFault>) -> u32
     ensures { result ≡ status_of answer }

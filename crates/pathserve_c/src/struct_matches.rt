@@ -1,7 +1,7 @@
 //! Matches by structs.
 ghost use Rattle.std.specs.Prelude.{◌≡◌, IfOk, OnErr, OnOk, [], length};
 ghost use Rattle.script_text.specs.ReadsBack.{IsWithinLimits, ReadsAs};
-ghost use Rattle.pathserve_c.specs.Structs.{Ends, IsNew, PostsAs, script_of, standing_in};
+ghost use Rattle.pathserve_c.specs.Structs.{Ends, IsNew, PostsAs, has_room, script_of, standing_in};
 
 use crate::statuses::PostFault;
 use flat_posts::{CallerPosts, FlatPost, PostsFault, read_posts, turn_of};
@@ -12,12 +12,14 @@ use posts::{MapSpec, Report, Tallies, TurnReplies};
 use std::alloc::Global;
 use std::marker::Model;
 
-/// A match by structs. Contracts see the match, the posts of the turn and the replies of the last one (`StructState`).
+/// A match by structs. Contracts see the match, the posts of the turn, the replies of the last one and
+/// how many posts may wait (`StructState`).
 #[derive(Drop)]
 pub struct StructMatch {
     game: PostedMatch,
     posted: CallerPosts,
     told: TurnReplies,
+    most: usize,
 }
 
 impl Model for StructMatch {
@@ -27,7 +29,7 @@ impl Model for StructMatch {
 
     ghost Value = { StructState };
 
-    ghost view = { λ m. record { game = m.game; posted = m.posted; told = m.told } };
+    ghost view = { λ m. record { game = m.game; posted = m.posted; told = m.told; most = m.most } };
 
     ghost invariant = { λ m. (m.game.map.version ≡ 3)
         × All (λ (entry : ℕ × Post). entry.0 < m.game.map.callers) m.posted };
@@ -44,7 +46,22 @@ impl StructMatch {
             game,
             posted: Sequence::new(alloc),
             told: nothing_told(alloc),
+            most: usize::MAX,
         })
+    }
+
+    /// Lets at most so many posts wait for the end of a turn. Those that wait already stay.
+    pub fn limit(&mut self, most: usize)
+        ensures { self.new ≡ record self.old { most = most } }
+    {
+        self.most = most;
+    }
+
+    /// Whether so many more posts may wait.
+    pub fn has_room(&self, count: usize) -> bool
+        ensures { result ≡ has_room self.now count }
+    {
+        self.posted.len() as u128 + count as u128 <= self.most as u128
     }
 
     /// Takes posts, behind those that the turn has: all of them or none.

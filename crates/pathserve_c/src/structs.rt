@@ -1,13 +1,17 @@
 //! Calls of matches by structs.
-ghost use Rattle.std.specs.Prelude.{◌≡◌, ◌⊎◌, Some};
+ghost use Rattle.std.specs.Prelude.{◌≡◌, ◌⊎◌, Some, length};
 ghost use Rattle.flat_posts.specs.Pages.{IsPage};
 ghost use Rattle.flat_posts.specs.Replies.{turn_replies, turn_waypoints};
-ghost use Rattle.pathserve_c.specs.Calls.{HasEnded, IsEnded, IsOpenedOn, IsPosted, IsScript, IsUnended, IsWritten};
+ghost use Rattle.pathserve_c.specs.Calls.{HasEnded, IsEnded, IsOpenedOn, IsPosted, IsPostedTo, IsScript, IsUnended, IsWritten};
 ghost use Rattle.pathserve_c.specs.Handles.{IsHandle, state_of, told_in};
+ghost use Rattle.pathserve_c.specs.Structs.{has_room};
+ghost use Rattle.pathserve_c.specs.declared.states.State.TheVariants.{Structs};
 
 use crate::handles::Handle;
 use crate::states::State;
-use crate::statuses::{BAD_VALUE, CLOSED, DONE, NO_MEMORY, OPEN, OTHER, SMALL, status_of_posts};
+use crate::statuses::{
+    BAD_VALUE, CLOSED, DONE, NO_MEMORY, OPEN, OTHER, PAST_LIMIT, SMALL, status_of_posts,
+};
 use crate::struct_matches::StructMatch;
 use flat_posts::{
     FlatCell, FlatClass, FlatMap, FlatPost, FlatRect, FlatReply, FlatTurn, MapFault, write_replies,
@@ -150,8 +154,19 @@ fn post_to(alloc: Global, state: &mut State, posts: &[FlatPost]) -> u32
     ensures { IsPosted (Some state.old) (Some state.new) posts.now result }
 {
     match state {
-        State::Structs(structs) => status_of_posts(structs.post_all(alloc, posts)),
+        State::Structs(structs) => post_in_room(alloc, structs, posts),
         State::Text(_) | State::View(_) | State::Finder(_) => OTHER,
+    }
+}
+
+/// Posts to a match, where so many more may wait.
+fn post_in_room(alloc: Global, structs: &mut StructMatch, posts: &[FlatPost]) -> u32
+    ensures { IsPostedTo (has_room structs.old (length posts.now)) structs.old (Some (Structs structs.new)) posts.now result }
+{
+    if structs.has_room(posts.len()) {
+        status_of_posts(structs.post_all(alloc, posts))
+    } else {
+        PAST_LIMIT
     }
 }
 

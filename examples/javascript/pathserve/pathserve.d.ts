@@ -4,7 +4,8 @@ export const NAVCELL: number;
 export function fixed(navcells: number): number;
 
 export const Status: Readonly<{
-  DONE: 0; BAD_LINE: 3; NO_MEMORY: 6; TOO_LONG: 7; CLOSED: 16; OPEN: 17; OTHER: 18; ENDED: 19; NO_MAP: 20; BAD_VALUE: 21; SMALL: 22
+  DONE: 0; BAD_LINE: 3; NO_MEMORY: 6; TOO_LONG: 7; CLOSED: 16; OPEN: 17; OTHER: 18; ENDED: 19; NO_MAP: 20; BAD_VALUE: 21; SMALL: 22;
+  PAST_LIMIT: 23
 }>;
 
 /** What is wrong with a post, as `check` says it. */
@@ -142,6 +143,8 @@ export class PostedMatch extends Match {
   check(...posts: Post[]): { which: number; why: number } | null;
   /** Makes the edits of the turn, and answers its requests on what they leave. */
   endTurn(): Turn;
+  /** Lets at most so many posts wait for the end of a turn: `post` throws PAST_LIMIT where there would be more. */
+  limitPosts(most: number): void;
   /** The turns that have ended as the bytes of a script, which a TextMatch or the program answers alike. */
   journal(): Uint8Array;
 }

@@ -22,7 +22,8 @@ export const NAVCELL = 65536;
 export const fixed = (navcells) => Math.floor(navcells * NAVCELL);
 
 export const Status = Object.freeze({
-  DONE: 0, BAD_LINE: 3, NO_MEMORY: 6, TOO_LONG: 7, CLOSED: 16, OPEN: 17, OTHER: 18, ENDED: 19, NO_MAP: 20, BAD_VALUE: 21, SMALL: 22
+  DONE: 0, BAD_LINE: 3, NO_MEMORY: 6, TOO_LONG: 7, CLOSED: 16, OPEN: 17, OTHER: 18, ENDED: 19, NO_MAP: 20, BAD_VALUE: 21, SMALL: 22,
+  PAST_LIMIT: 23
 });
 
 /** What is wrong with a post, as `check` says it. */
@@ -463,6 +464,11 @@ export class PostedMatch extends Match {
   /** The turns that have ended as the bytes of a script, which a TextMatch or the program answers alike. */
   journal() {
     return this.told("journal");
+  }
+
+  /** Lets at most so many posts wait for the end of a turn. */
+  limitPosts(most) {
+    must(this.call("limit_posts", BigInt(most)));
   }
 }
 

@@ -113,6 +113,10 @@ class PostedMatch(_Match):
         else:
             must(self._call("open_grid", its_map, its_classes, len(classes), _masks_of(masks), len(masks)))
 
+    def limit_posts(self, most: int) -> None:
+        """Lets at most so many posts wait for the end of a turn. `post` raises PAST_LIMIT where there would be more."""
+        must(self._call("limit_posts", most))
+
     def post(self, posts: Iterable[Post]) -> None:
         """Posts, behind those that the turn has: all or none. BadPost where one of them is no post of the map."""
         structs = [it.struct() for it in posts]

@@ -22,6 +22,7 @@ class Status(enum.IntEnum):
     NO_MAP = 20
     BAD_VALUE = 21
     SMALL = 22
+    PAST_LIMIT = 23
 
 
 class Failed(Exception):
@@ -145,6 +146,7 @@ CALLS = {
     "take": (c_size_t, [MATCH, c_void_p, c_size_t]),
     "open_map": (c_uint32, [MATCH, POINTER(MapStruct), POINTER(ClassStruct), c_size_t, POINTER(RectStruct), c_size_t]),
     "open_grid": (c_uint32, [MATCH, POINTER(MapStruct), POINTER(ClassStruct), c_size_t, POINTER(c_uint16), c_size_t]),
+    "limit_posts": (c_uint32, [MATCH, c_size_t]),
     "post_all": (c_uint32, [MATCH, POINTER(PostStruct), c_size_t]),
     "check": (c_uint32, [MATCH, POINTER(PostStruct), c_size_t, SIZE, POINTER(c_uint32)]),
     "end_turn": (c_uint32, [MATCH, POINTER(TurnStruct)]),

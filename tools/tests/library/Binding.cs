@@ -99,6 +99,11 @@ public static class Binding
         using (View view = match.View())
         {
             Must(!view.Passable(0, 0, 0) && view.Passable(0, 1, 0) && view.Passable(0, 0, 1) && !view.Passable(0, 1, 1), "other cells");
+            Post ask = Post.Region(0, 0, 0, 0);
+            match.LimitPosts(2);
+            match.Post(ask);
+            Refused(Status.PastLimit, () => match.Post(ask, ask), "posts past the limit");
+            match.Post(ask);
         }
     }
 

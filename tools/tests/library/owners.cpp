@@ -137,6 +137,10 @@ void grids() {
     View view = match.view();
     holds(!view.passable(0, {0, 0}) && view.passable(0, {1, 0}) && view.passable(0, {0, 1}) && !view.passable(0, {1, 1}), "other cells");
     refused(PATHSERVE_BAD_VALUE, [&] { Match::on_grid(map, {passability_class("walker", 0)}, {1, 0, 1, 2, 3}); }, "too few masks");
+    match.limit_posts(2);
+    match.post(region(0, 0, {0, 0}));
+    refused(PATHSERVE_PAST_LIMIT, [&] { match.post({region(0, 0, {0, 0}), region(0, 0, {0, 0})}); }, "posts past the limit");
+    match.post(region(0, 0, {0, 0}));
 }
 
 void misuse() {

@@ -151,8 +151,19 @@ function grids() {
   match.close();
 }
 
+function limits() {
+  const match = library.postedMatch(WALKER), ask = its.region(0, 0, 0, 0);
+  match.limitPosts(2);
+  match.post(ask);
+  assert.throws(() => match.post(ask, ask), failed(its.Status.PAST_LIMIT));
+  match.post(ask);
+  assert.equal(match.endTurn().replies.length, 2);
+  match.close();
+}
+
 texts();
 grids();
+limits();
 const given = readFileSync(0), told = [];
 for (let at = 0; at < given.length; ) {
   const end = given.indexOf(10, at), length = Number(given.toString("latin1", at, end));

@@ -5,6 +5,8 @@ use core::ffi::c_void;
 
 pub const VERSION: u32 = 1 << 8;
 pub const ANSWERS: u32 = 2;
+/// No text has more bytes.
+pub const TEXT: usize = 96;
 
 pub const ADD_UNIT: u8 = 1;
 pub const ADD_SQUARE: u8 = 2;
@@ -54,9 +56,7 @@ pub const ENDED: u32 = 19;
 pub const NO_MAP: u32 = 20;
 pub const BAD_VALUE: u32 = 21;
 pub const SMALL: u32 = 22;
-
-/// No text has more bytes.
-pub const TEXT: usize = 96;
+pub const PAST_LIMIT: u32 = 23;
 
 /// A match: all zero before it is opened, written by the library alone, never copied.
 #[repr(C)]
@@ -201,6 +201,7 @@ extern "C" {
         masks: *const u16,
         count: usize,
     ) -> u32;
+    pub fn pathserve_limit_posts(its: *mut Match, most: usize) -> u32;
     pub fn pathserve_post_all(its: *mut Match, posts: *const Post, count: usize) -> u32;
     pub fn pathserve_check(its: *mut Match, posts: *const Post, count: usize, which: *mut usize, why: *mut u32) -> u32;
     pub fn pathserve_end_turn(its: *mut Match, turn: *mut Turn) -> u32;

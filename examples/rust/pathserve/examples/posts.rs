@@ -31,9 +31,13 @@ fn why_a_blank_line_is_bad() -> Result<String, Error> {
     game.cause()
 }
 
-/// Which cells of a map of two rows are passable whose terrain is a grid of masks.
+/// Which cells of a map of two rows are passable whose terrain is a grid of masks, and where one post at most may wait.
 fn grid() -> Result<Vec<bool>, Error> {
     let mut game = PostedMatch::open_grid(2, 2, 1, &[Class::new("infantry", 0)], &[1, 0, 2, 3])?;
+    let ask = Post::Region { caller: 0, class: 0, x: 0, z: 0 };
+    game.limit_posts(1);
+    game.post(&[ask])?;
+    assert_eq!(game.post(&[ask]), Err(Error::PastLimit));
     let mut view = game.view()?;
     Ok((0..2).flat_map(|j| (0..2).map(move |i| (i, j))).map(|(i, j)| view.passable(0, i, j)).collect())
 }

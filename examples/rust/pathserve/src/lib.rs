@@ -38,6 +38,8 @@ pub enum Error {
     NoMap,
     /// A value is no such kind, number or size.
     BadValue,
+    /// More posts than the limit that was set.
+    PastLimit,
     /// The library that was linked is of another version.
     OtherVersion,
 }
@@ -51,6 +53,7 @@ impl std::fmt::Display for Error {
             Error::Ended => write!(out, "the script has been finished"),
             Error::NoMap => write!(out, "the map line has not come"),
             Error::BadValue => write!(out, "a value is past its limits"),
+            Error::PastLimit => write!(out, "more posts than the limit that was set"),
             Error::OtherVersion => write!(out, "libpathserve is of another version"),
         }
     }
@@ -67,6 +70,7 @@ fn must(status: u32) -> Result<(), Error> {
         sys::ENDED => Err(Error::Ended),
         sys::NO_MAP => Err(Error::NoMap),
         sys::BAD_VALUE => Err(Error::BadValue),
+        sys::PAST_LIMIT => Err(Error::PastLimit),
         other => unreachable!("a handle that an owner has opened is answered {other}"),
     }
 }

@@ -181,6 +181,12 @@ impl PostedMatch {
         Ok(PostedMatch(owned))
     }
 
+    /// Lets at most so many posts wait for the end of a turn.
+    pub fn limit_posts(&mut self, most: usize) {
+        // SAFETY: an exclusive handle.
+        unsafe { sys::pathserve_limit_posts(self.handle(), most) };
+    }
+
     /// Posts, behind those that the turn has: all or none.
     pub fn post(&mut self, posts: &[Post]) -> Result<(), Error> {
         let posts: Vec<sys::Post> = posts.iter().map(Post::raw).collect();
