@@ -3,10 +3,10 @@
 
 use core::ffi::c_void;
 
+/// No text of the library has more bytes.
+pub const TEXT: usize = 96;
 pub const VERSION: u32 = 1 << 8;
 pub const ANSWERS: u32 = 2;
-/// No text has more bytes.
-pub const TEXT: usize = 96;
 
 pub const ADD_UNIT: u8 = 1;
 pub const ADD_SQUARE: u8 = 2;
