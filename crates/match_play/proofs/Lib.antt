@@ -5,4 +5,11 @@ pub mod LastItems
 pub mod Items
 pub mod Fits
 pub mod Posting
+pub mod Digesting
+pub mod NewestLines
+pub mod Replaying
+pub mod SavedMaps
+pub mod Saving
+pub mod ScriptsSaid
 pub mod Stopping
+pub mod WhatStands

@@ -1,5 +1,9 @@
+pub mod Digests
 pub mod Texts
 pub mod Grounds
 pub mod Playing
 pub mod Posted
+pub mod Replays
+pub mod Saved
+pub mod Scripts
 pub mod inner

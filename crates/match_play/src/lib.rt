@@ -26,19 +26,27 @@
 //! ```
 #![tactic(auto)]
 
+mod digests;
 mod faults;
 mod laws;
 mod match_progress;
 mod match_states;
 mod matches;
 mod posted;
+mod replayed;
+mod saved;
+mod scripts;
 mod states;
 mod views;
 
+pub use digests::{DIGEST_PRIME, digest_of, turn_digest};
 pub use faults::MatchFault;
 pub use laws::one_cause;
 pub use match_progress::play_item;
 pub use matches::Match;
 pub use posted::{EndedTurn, PostedMatch};
 pub use posts::Report;
+pub use replayed::{OpenedMatch, open_script};
+pub use saved::snapshot;
+pub use scripts::{SavedMatch, read_script};
 pub use states::MatchProgress;

@@ -6,7 +6,9 @@ ghost use Rattle.script_text.specs.ReadsBack.{ArePostValues, IsWithinLimits, Rea
 ghost use Rattle.turn_core.specs.Notes.{AreNotes};
 ghost use Rattle.turn_core.specs.Turns.{IsTurnTold, after_turn, standing};
 ghost use Rattle.turn_core.specs.Words.{bare};
+ghost use Rattle.match_play.specs.Saved.{forgetting};
 
+use crate::saved::adding_turn;
 use grid_versions::Version;
 use nav_types::{Bytes, NoMemory};
 use posts::{Journal, MapSpec, Notes, Report, TurnPosts, TurnReplies};
@@ -93,6 +95,24 @@ impl PostedMatch {
         self.journal.push(posts)?;
         self.version = after;
         Ok(EndedTurn { replies, notes })
+    }
+
+    /// Forgets how what stands came to stand: the journal begins anew, with one turn in which caller 0 adds all that stands
+    /// (`forgetting`), unless it has no turn. What stands is as it was, and the next turn is the second.
+    pub fn forget(&mut self, alloc: Global) -> Result<(), NoMemory>
+        requires newest { self.old.map.version ≡ 3 }
+        ensures ok { OnOk result (self.new ≡ forgetting self.old) }
+        ensures stands { standing self.new.map bare self.new.journal ≡ standing self.old.map bare self.old.journal }
+        ensures err { OnErr result (self.new ≡ self.old) }
+    {
+        if self.journal.is_empty() {
+            return Ok(());
+        }
+        let turn = adding_turn(alloc, &self.version)?;
+        let mut journal = Journal::new(alloc);
+        journal.push(turn)?;
+        self.journal = journal;
+        Ok(())
     }
 
     /// The version after the turns that have ended.
