@@ -8,6 +8,7 @@
  *     by text       pathserve_open       feed, finish          waiting, take, cause
  *     by structs    pathserve_open_map   check, post_all, end_turn   replies, waypoints, journal
  *                   pathserve_open_grid  limit_posts
+ *     to go on      pathserve_open_script, snapshot, forget          turn_digest, view_digest
  *     to look       pathserve_view_of    passable, region, area, row, nearest, standing_at, standing, find, field,
  *                                        clear, smooth
  *     to find much  pathserve_finder_open   find_with, find_all
@@ -495,7 +496,7 @@ uint32_t pathserve_standing_at(pathserve_view *view, uint32_t id, pathserve_post
 
 /* Copies the current obstructions, as the posts by which caller 0 would add them, by rising number, starting at place `first`
  * (from 0): as many as fit. `whole` gets how many there are in all, at most 65,536; so a first call with (NULL, 0) asks for
- * that. A match on the same map goes on alike from one turn of these posts (docs/C.md, "Lockstep").
+ * that. A match on the same map goes on alike from one turn of these posts (docs/C.md, "Save, load, join late").
  * DONE. NO_MEMORY, CLOSED, and OTHER for a match. Only with DONE is anything written. */
 pathserve_status pathserve_standing(pathserve_view *view, uint64_t first, pathserve_post *posts, size_t count, uint64_t *whole);
 
@@ -580,6 +581,43 @@ uint32_t pathserve_clear(pathserve_view *view, uint32_t class_number, const path
  * anything written. */
 pathserve_status pathserve_smooth(pathserve_view *view, uint32_t class_number, const pathserve_cell *start,
                                   pathserve_cell *waypoints, size_t count, size_t *kept);
+
+/* ======== save, load, join late, compare ======== */
+
+/* Opens a closed handle: a match by structs in which a whole script was played, such as one of pathserve_journal or
+ * pathserve_snapshot, or a map alone, of version 3. It goes on behind the last turn of the script, whose replies, waypoints and
+ * digest it has. Opened from its journal, a match answers further turns as it would have.
+ *   DONE                  it is open.
+ *   BAD_LINE, TOO_LONG    as of pathserve_feed and pathserve_finish: `bad_line` gets the number of the line, from 1. That is the
+ *                         one behind the last if a turn has begun and its end line is missing, so cut such a script there.
+ *   BAD_VALUE             the script is whole, and of version 1 or 2: a match by text plays it.
+ *   OPEN, NO_MEMORY
+ * Only with DONE is the handle written, and only with BAD_LINE and TOO_LONG `bad_line`. */
+pathserve_status pathserve_open_script(pathserve_match *match, const uint8_t *script, size_t length, uint64_t *bad_line);
+
+/* Writes what a view shows as a script in canonical form: the map, in version 3, and one turn in which caller 0 adds all current
+ * obstructions, by rising number. A match that is opened from it, by structs or by text, has the same map and the same
+ * obstructions, and answers further turns as the match of the view: their digests are the same, and its turns are numbered from
+ * 2 on. `whole` gets its size in bytes. DONE: it is at the start of the buffer. SMALL: it does not fit, and nothing was written
+ * to the buffer; so a first call with (NULL, 0) asks for the size. NO_MEMORY, CLOSED, and OTHER for a match: neither was
+ * written. */
+pathserve_status pathserve_snapshot(pathserve_view *view, uint8_t *buffer, size_t length, size_t *whole);
+
+/* Begins the journal of a match by structs anew, and frees what it held: in place of the turns that have ended it gets one turn
+ * that adds the current obstructions, as the snapshot has. So the next turn is number 2. A match of which no turn has ended stays
+ * as it is. All else stays: the obstructions, the posts of the turn, the replies of the last one and their digest.
+ * DONE. NO_MEMORY: the journal is as it was. CLOSED, OTHER. */
+pathserve_status pathserve_forget(pathserve_match *match);
+
+/* The digest of the turn that ended last, in a match by structs: the number by which docs/FORMAT.md, "The digest of a turn",
+ * tells texts of turns apart, made of the text that `pathserve replay` writes for the turn. 0 if no turn has ended. Players of
+ * a match compare it to find the first turn in which they went out of sync. DONE. NO_MEMORY, CLOSED, OTHER. Only with DONE is
+ * `digest` written. */
+pathserve_status pathserve_turn_digest(pathserve_match *match, uint64_t *digest);
+
+/* The digest of what a view shows: that of all bytes that pathserve_snapshot writes. DONE. NO_MEMORY, CLOSED, and OTHER for a
+ * match. Only with DONE is `digest` written. */
+pathserve_status pathserve_view_digest(pathserve_view *view, uint64_t *digest);
 
 /* ======== memory of your own ========
  *

@@ -84,6 +84,17 @@ class Failed : public std::runtime_error {
     pathserve_status its_status;
 };
 
+// A script that opens no match. A line of BAD_LINE or TOO_LONG is told by its number, from 1.
+class BadScript : public Failed {
+  public:
+    BadScript(pathserve_status status, std::uint64_t line) : Failed(status), its_line(line) {}
+
+    std::uint64_t line() const noexcept { return its_line; }
+
+  private:
+    std::uint64_t its_line;
+};
+
 inline void must(pathserve_status status) {
     if (status != PATHSERVE_DONE) throw Failed(status);
 }
@@ -113,6 +124,16 @@ template <typename Raw, void (*close)(Raw *)> class Owner {
     static constexpr Raw closed = PATHSERVE_CLOSED_HANDLE;
     Raw raw = closed;
 };
+
+// What a call writes into a buffer, which tells the size that it needs.
+template <typename Handle> std::string written(pathserve_status (*write)(Handle *, std::uint8_t *, std::size_t, std::size_t *), Handle *from) {
+    std::string text;
+    std::size_t whole = 0;
+    pathserve_status status;
+    while ((status = write(from, reinterpret_cast<std::uint8_t *>(text.data()), text.size(), &whole)) == PATHSERVE_SMALL) text.resize(whole);
+    must(status);
+    return text;
+}
 
 } // namespace detail
 
@@ -320,6 +341,16 @@ class View {
         return posts;
     }
 
+    // The map and all obstructions as a script of one turn, of which a match opens and goes on alike.
+    std::string snapshot() { return detail::written(pathserve_snapshot, get()); }
+
+    // The digest of the snapshot: where two players have the same, the same obstructions stand.
+    std::uint64_t digest() {
+        std::uint64_t digest = 0;
+        must(pathserve_view_digest(get(), &digest));
+        return digest;
+    }
+
     // Answers a path or a region at once. A Finder does so in less time.
     Found find(const Post &post) {
         Found found = {{}, std::vector<Cell>(64)};
@@ -406,21 +437,6 @@ class Finder {
 
 // ---- matches
 
-namespace detail {
-
-// The text of a match that a call writes to a buffer, once it has said how long it is.
-inline std::string told_by(pathserve_status (*call)(pathserve_match *, std::uint8_t *, std::size_t, std::size_t *), pathserve_match *match) {
-    std::string text;
-    std::size_t whole = 0;
-    pathserve_status status;
-    while ((status = call(match, reinterpret_cast<std::uint8_t *>(text.data()), text.size(), &whole)) == PATHSERVE_SMALL)
-        text.resize(whole);
-    must(status);
-    return text;
-}
-
-} // namespace detail
-
 // A match by posts.
 class Match {
   public:
@@ -437,6 +453,17 @@ class Match {
 
     // Lets at most so many posts wait for the end of a turn.
     void limit_posts(std::size_t most) { must(pathserve_limit_posts(get(), most)); }
+
+    // A match in which a whole script of version 3 was played, such as a journal or a snapshot. BadScript if it is none.
+    static Match of_script(std::string_view script) {
+        Match made;
+        std::uint64_t line = 0;
+        auto bytes = reinterpret_cast<const std::uint8_t *>(script.data());
+        pathserve_status status = pathserve_open_script(made.get(), bytes, script.size(), &line);
+        if (status == PATHSERVE_BAD_LINE || status == PATHSERVE_TOO_LONG) throw BadScript(status, line);
+        must(status);
+        return made;
+    }
 
     // Adds posts to the turn: all or none.
     void post(const Post &post) { must(pathserve_post_all(get(), &post, 1)); }
@@ -463,7 +490,17 @@ class Match {
     }
 
     // The turns that have ended as a script.
-    std::string journal() { return detail::told_by(pathserve_journal, get()); }
+    std::string journal() { return detail::written(pathserve_journal, get()); }
+
+    // Begins the journal anew, with one turn that adds what stands: the next turn is the second.
+    void forget() { must(pathserve_forget(get())); }
+
+    // The digest of the turn that ended last; 0 if none has ended.
+    std::uint64_t digest() {
+        std::uint64_t digest = 0;
+        must(pathserve_turn_digest(get(), &digest));
+        return digest;
+    }
 
     View view() { return View::of(get()); }
 
@@ -493,7 +530,7 @@ class TextMatch {
     void finish() { must(pathserve_finish(get())); }
 
     // Why the line is bad at which the match has stopped, as the program says it. Empty as long as no line was bad.
-    std::string cause() { return detail::told_by(pathserve_cause, get()); }
+    std::string cause() { return detail::written(pathserve_cause, get()); }
 
     // The text that waits, all of it.
     std::string take() {

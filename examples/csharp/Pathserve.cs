@@ -42,7 +42,14 @@ namespace Pathserve
     {
         public readonly Status Status;
 
-        public PathserveException(Status status) : base("pathserve: " + status) { Status = status; }
+        /// <summary>The number of the line of a script that opens no match, or 0.</summary>
+        public readonly ulong Line;
+
+        public PathserveException(Status status, ulong line = 0) : base("pathserve: " + status + (line == 0 ? "" : " at line " + line))
+        {
+            Status = status;
+            Line = line;
+        }
     }
 
     // ---- structs, laid out as in pathserve.h
@@ -269,6 +276,14 @@ namespace Pathserve
         [DllImport(Library)] internal static extern Status pathserve_smooth(
             ref Handle view, uint classNumber, ref Cell start, [In, Out] Cell[] cells, UIntPtr count, ref UIntPtr kept);
 
+        [DllImport(Library)] internal static extern Status pathserve_open_script(
+            ref Handle match, [In] byte[] script, UIntPtr length, ref ulong badLine);
+        [DllImport(Library)] internal static extern Status pathserve_snapshot(
+            ref Handle view, [Out] byte[] buffer, UIntPtr length, out UIntPtr whole);
+        [DllImport(Library)] internal static extern Status pathserve_forget(ref Handle match);
+        [DllImport(Library)] internal static extern Status pathserve_turn_digest(ref Handle match, ref ulong digest);
+        [DllImport(Library)] internal static extern Status pathserve_view_digest(ref Handle view, ref ulong digest);
+
         [DllImport(Library)] internal static extern Status pathserve_finder_open(ref Handle finder);
         [DllImport(Library)] internal static extern void pathserve_finder_close(ref Handle finder);
         [DllImport(Library)] internal static extern Status pathserve_find_with(
@@ -408,6 +423,26 @@ namespace Pathserve
             return turn;
         }
 
+        /// <summary>A match in which a whole script of version 3 was played, such as a journal or the snapshot of a view.</summary>
+        public PostedMatch(byte[] script)
+        {
+            ulong line = 0;
+            Status status = Native.pathserve_open_script(ref handle, script, Native.Count(script), ref line);
+            if (status == Status.BadLine || status == Status.TooLong) throw new PathserveException(status, line);
+            Native.Must(status);
+        }
+
+        /// <summary>Begins the journal anew, with one turn that adds what stands: the next turn is the second.</summary>
+        public void Forget() { Native.Must(Native.pathserve_forget(ref handle)); }
+
+        /// <summary>The digest of the turn that ended last; 0 where none has ended.</summary>
+        public ulong Digest()
+        {
+            ulong digest = 0;
+            Native.Must(Native.pathserve_turn_digest(ref handle, ref digest));
+            return digest;
+        }
+
         /// <summary>The turns that have ended as the bytes of a script, which a TextMatch or the program answers alike.</summary>
         public byte[] Journal()
         {
@@ -468,6 +503,25 @@ namespace Pathserve
             View view = new View();
             Native.Must(Native.pathserve_view_again(ref handle, ref view.handle));
             return view;
+        }
+
+        /// <summary>What stands as the bytes of a script: the map, and one turn in which caller 0 adds all that stands.</summary>
+        public byte[] Snapshot()
+        {
+            UIntPtr whole;
+            Status status = Native.pathserve_snapshot(ref handle, null, UIntPtr.Zero, out whole);
+            if (status != Status.Small) Native.Must(status);
+            byte[] script = new byte[(ulong)whole];
+            Native.Must(Native.pathserve_snapshot(ref handle, script, whole, out whole));
+            return script;
+        }
+
+        /// <summary>The digest of the snapshot: where two players have the same, the same stands.</summary>
+        public ulong Digest()
+        {
+            ulong digest = 0;
+            Native.Must(Native.pathserve_view_digest(ref handle, ref digest));
+            return digest;
         }
 
         public bool Passable(int classNumber, int i, int j)

@@ -11,6 +11,7 @@ use std::test::*;
 
 mod example;
 mod examples;
+mod saved;
 
 use examples::{FIRST, FIRST_ANSWERS, SKIRMISH, SKIRMISH_ANSWERS};
 

@@ -22,6 +22,7 @@ import forms
 import links
 import mapscript
 import platforms
+import turns
 
 MADE = [os.path.join(TOP, "out", it) for it in ("release", "release-unproved")]
 RELEASE = os.environ.get("PATHSERVE_RELEASE") or next((it for it in MADE if os.path.isfile(f"{it}/PROVENANCE")), MADE[0])
@@ -59,6 +60,12 @@ FIELD = rb"""4 waypoints, smoothed: 4,6 7,6 10,3; its end is not in sight
 unit 1,1 has 13.5 navcells to go, is there after 11 steps, at 10,3
 unit 4,4 has 9.2 navcells to go, is there after 8 steps, at 10,3
 unit 1,7 can't get there
+"""
+# what examples/c/saves.c tells
+SAVED = b"""\
+the same stands: yes
+turn 3 here, turn 2 there, in step: yes
+turn 2 here, turn 3 there, in step: yes
 """
 # what examples/cpp/game_loop.cpp tells: s the soldiers of a group, c a scout, # a wall that a player builds
 LOOP = b"""\
@@ -209,6 +216,11 @@ class Clients(unittest.TestCase):
             program = built(self.folder, "examples/c/fields.c", archive, SANE)
             self.assertEqual(answers(program), (FIELD, 0))
 
+    def test_saves(self):
+        for archive in ARCHIVES:
+            program = built(self.folder, "examples/c/saves.c", archive, SANE)
+            self.assertEqual(answers(program), (SAVED, 0))
+
     @unittest.skipUnless(shutil.which("c++"), "there is no C++ compiler")
     def test_cpp(self):
         strict = ["-Wall", "-Wextra", "-Werror", "-pedantic", *(f"-I{RELEASE}/{it}" for it in ("include", "examples/cpp"))]
@@ -264,13 +276,16 @@ class Clients(unittest.TestCase):
     @unittest.skipUnless(shutil.which("cargo"), "there is no cargo")
     def test_rust(self):
         where = dict(os.environ, PATHSERVE_LIB_DIR=os.path.join(RELEASE, "lib"), CARGO_TARGET_DIR=self.folder)
-        for name in ("skirmish", "posts", "views", "finders"):
+        for name in ("skirmish", "posts", "views", "finders", "saves"):
             words = ["cargo", "run", "-q", "--offline", "--example", name]
             folder = os.path.join(RELEASE, "examples", "rust", "pathserve")
             ran = subprocess.run(words, cwd=folder, env=where, input=read("examples/skirmish.script"), capture_output=True)
             self.assertEqual(ran.returncode, 0, ran.stderr.decode())
             if name == "skirmish":
                 self.assertEqual(ran.stdout, read("examples/skirmish.answers"))
+            if name == "saves":
+                digests = [it.split()[-1] for it in ran.stdout.decode().splitlines()]
+                self.assertEqual((digests[0], digests[1]), ("9d975c6fe012e721", digests[2]))
             if name == "finders":
                 self.assertEqual(ran.stdout.count(b"\nunit"), 2)
 
@@ -598,6 +613,64 @@ class Python(unittest.TestCase):
                         self.assertEqual(self.further(opened, posted.turns[at + 1 :]), self.further_of(posted, at + 1))
                         compared += 1
         self.assertGreater(compared, 100)
+
+    def test_a_match_opens_from_its_journal_and_from_snapshots_and_stays_in_step(self):
+        compared = 0
+        for posted, text in self.said(60):
+            digests = [value for _, value in turns.digests(text.splitlines(True))]
+            with posted.open() as match, posted.open() as forgetful:
+                self.assertEqual(match.digest(), 0)
+                for at, posts in enumerate(posted.turns):
+                    for its in (match, forgetful):
+                        its.post(posts)
+                        its.end_turn()
+                        self.assertEqual(its.digest(), digests[at])
+                    with match.view() as view, forgetful.view() as other:
+                        saved = view.snapshot()
+                        self.assertEqual((other.snapshot(), other.digest()), (saved, view.digest()))
+                        self.assertEqual(view.digest(), int.from_bytes(saved, "big") % turns.PRIME)
+                    forgetful.forget()
+                    self.assertEqual((forgetful.journal(), forgetful.digest()), (saved, digests[at]))
+                    self.assertEqual(self.by_text(saved)[1], 0)
+                    for script, number in ((match.journal(), digests[at]), (saved, None)):
+                        with self.api.PostedMatch.of_script(script) as opened:
+                            self.assertEqual(opened.journal(), script)
+                            self.assertIn(number, (None, opened.digest()))
+                            with opened.view() as view:
+                                self.assertEqual(view.snapshot(), saved)
+                            for posts, digest in zip(posted.turns[at + 1 :], digests[at + 1 :]):
+                                opened.post(posts)
+                                opened.end_turn()
+                                self.assertEqual(opened.digest(), digest)
+                                compared += 1
+        self.assertGreater(compared, 100)
+
+    def test_a_script_that_opens_no_match_is_refused_by_its_line(self):
+        api, stop = self.api, self.api.Status
+        head = b'{"version":3,"size":[3,3],"callers":1,"classes":[{"name":"a","clearance":"0"}]}\n'
+        with api.PostedMatch.of_script(head) as match:
+            self.assertEqual((match.digest(), match.journal()), (0, head))
+        for script, line in ((b"", 1), (b"{}", 1), (head + b'{"end":2}\n', 2), (head + b'{"caller":0,"remove":1}\n', 3)):
+            with self.assertRaises(api.BadScript) as raised:
+                api.PostedMatch.of_script(script)
+            self.assertEqual((raised.exception.status, raised.exception.line), (stop.BAD_LINE, line))
+        for version in (1, 2):
+            with self.assertRaises(api.Failed) as raised:
+                api.PostedMatch.of_script(head.replace(b":3,", b":%d," % version, 1))
+            self.assertEqual(raised.exception.status, stop.BAD_VALUE)
+
+    def test_a_match_by_text_of_an_older_version_has_snapshots_too(self):
+        opened = 0
+        for script, text, status in scripts(60):
+            if status == 0:
+                with self.api.TextMatch() as match:
+                    match.feed(script)
+                    with match.view() as view:
+                        saved, standing = view.snapshot(), view.standing()
+                with self.api.PostedMatch.of_script(saved) as again, again.view() as view:
+                    self.assertEqual((view.standing(), view.snapshot()), (standing, saved))
+                opened += 1
+        self.assertGreater(opened, 20)
 
     def test_a_view_says_what_stands_and_where_paths_start(self):
         starts = 0

@@ -7,4 +7,3 @@ mod MaskRows
 mod Places
 mod Sighted
 mod Starts
-mod Turning

@@ -2,6 +2,7 @@ pub mod Answered
 pub mod Calls
 pub mod Causes
 pub mod Checks
+pub mod Digests
 pub mod Fields
 pub mod Finders
 pub mod Finds
@@ -10,6 +11,7 @@ pub mod Handles
 pub mod Limits
 pub mod Listings
 pub mod Questions
+pub mod Saves
 pub mod Sights
 pub mod Sizes
 pub mod Statuses

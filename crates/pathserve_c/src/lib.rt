@@ -10,6 +10,7 @@
 
 mod causes;
 mod checks;
+mod digests;
 mod fields;
 mod finder_calls;
 mod finders;
@@ -19,9 +20,11 @@ mod handles;
 mod held;
 mod limits;
 mod listings;
+mod openings;
 mod questions;
 mod raw_box;
 mod sights;
+mod snapshots;
 mod states;
 mod statuses;
 mod struct_matches;
@@ -34,6 +37,7 @@ mod words;
 
 pub use causes::pathserve_cause;
 pub use checks::{NOT_ZERO, WRONG_CALLER, WRONG_CLASS, WRONG_GOAL, WRONG_KIND, pathserve_check};
+pub use digests::{pathserve_turn_digest, pathserve_view_digest};
 pub use fields::pathserve_field;
 pub use finder_calls::{
     pathserve_find_all, pathserve_find_with, pathserve_finder_close, pathserve_finder_open,
@@ -45,9 +49,11 @@ pub use handles::{Handle, handles_may_cross};
 pub use held::Held;
 pub use limits::pathserve_limit_posts;
 pub use listings::pathserve_standing;
+pub use openings::{OpenFault, pathserve_open_script};
 pub use questions::{pathserve_nearest, pathserve_standing_at};
 pub use raw_box::RawBox;
 pub use sights::{pathserve_clear, pathserve_smooth};
+pub use snapshots::{pathserve_forget, pathserve_snapshot};
 pub use states::State;
 pub use statuses::{
     BAD_LINE, BAD_VALUE, CLOSED, DONE, ENDED, NO_MAP, NO_MEMORY, OPEN, OTHER, PAST_LIMIT,

@@ -1,16 +1,23 @@
 //! Matches by structs.
-ghost use Rattle.std.specs.Prelude.{◌≡◌, IfOk, OnErr, OnOk, [], length};
+ghost use Rattle.std.specs.Prelude.{◌≡◌, IfOk, None, OnErr, OnOk, Some, [], length};
+ghost use Rattle.posts.specs.declared.replies.TurnReplies.{TurnReplies};
 ghost use Rattle.script_text.specs.ReadsBack.{IsWithinLimits, ReadsAs};
+ghost use Rattle.match_play.specs.Saved.{forgetting};
+ghost use Rattle.pathserve_c.specs.Saves.{OpensAs};
 ghost use Rattle.pathserve_c.specs.Structs.{Ends, IsNew, PostsAs, has_room, script_of, standing_in};
 
+use crate::openings::OpenFault;
 use crate::statuses::PostFault;
 use flat_posts::{CallerPosts, FlatPost, PostsFault, read_posts, turn_of};
 use grid_versions::Version;
-use match_play::{EndedTurn, PostedMatch};
+use match_play::{EndedTurn, OpenedMatch, PostedMatch, open_script};
 use nav_types::{Bytes, NoMemory, Sequence};
 use posts::{MapSpec, Report, Tallies, TurnReplies};
 use std::alloc::Global;
 use std::marker::Model;
+
+/// The version of the scripts of matches by structs, which has lines for all posts.
+const NEWEST_VERSION: u8 = 3;
 
 /// A match by structs. Contracts see the match, the posts of the turn, the replies of the last one and
 /// how many posts may wait (`StructState`).
@@ -46,6 +53,25 @@ impl StructMatch {
             game,
             posted: Sequence::new(alloc),
             told: nothing_told(alloc),
+            most: usize::MAX,
+        })
+    }
+
+    /// A match in which a whole script of version 3 was played (`OpensAs`).
+    pub fn open_script(alloc: Global, script: &[u8]) -> Result<StructMatch, OpenFault>
+        ensures { OpensAs script.now result }
+    {
+        let OpenedMatch { game, told } = match open_script(alloc, script) {
+            Ok(opened) => opened,
+            Err(fault) => return Err(OpenFault::Script(fault)),
+        };
+        if game.version().map().version() != NEWEST_VERSION {
+            return Err(OpenFault::OldVersion);
+        }
+        Ok(StructMatch {
+            game,
+            posted: Sequence::new(alloc),
+            told: told_or_nothing(alloc, told),
             most: usize::MAX,
         })
     }
@@ -96,6 +122,15 @@ impl StructMatch {
         }
     }
 
+    /// Begins the journal anew, with one turn that adds what stands (`forgetting`).
+    pub fn forget(&mut self, alloc: Global) -> Result<(), NoMemory>
+        ensures ok { OnOk result (self.new ≡ record self.old { game = forgetting self.old.game }) }
+        ensures stands { standing_in self.new.game ≡ standing_in self.old.game }
+        ensures err { OnErr result (self.new ≡ self.old) }
+    {
+        self.game.forget(alloc)
+    }
+
     /// The replies of the turn that ended last.
     pub fn told(&self) -> &TurnReplies
         ensures { result.now ≡ self.now.told }
@@ -125,6 +160,17 @@ impl StructMatch {
             → ReadsAs self.now.game.map self.now.game.journal (script_of self.now.game)) }
     {
         self.game.script(alloc)
+    }
+}
+
+/// The replies of the last turn, if there is one.
+fn told_or_nothing(alloc: Global, told: Option<TurnReplies>) -> TurnReplies
+    ensures some { (last : TurnReplies) → told ≡ Some last → result ≡ last }
+    ensures none { told ≡ None → result.replies ≡ [] }
+{
+    match told {
+        Some(last) => last,
+        None => nothing_told(alloc),
     }
 }
 

@@ -21,6 +21,11 @@ export class Failed extends Error {
   readonly taken: number;
 }
 
+/** A script that opens no match: its line of this number is not in the grammar in its place, or past its limit. */
+export class BadScript extends Failed {
+  readonly line: number;
+}
+
 export interface Cell { i: number; j: number }
 
 /** A post, by the fields of the C struct; those that are left out are 0. */
@@ -109,6 +114,8 @@ export class Library {
   textMatch(report?: Report): TextMatch;
   /** A match on a map, whose turns are posts. */
   postedMatch(map: MapOfMatch): PostedMatch;
+  /** A match in which the bytes of a whole script of version 3 were played, such as a journal or a snapshot. */
+  scriptMatch(script: Uint8Array): PostedMatch;
   /** The memory of searches, for views of any match of this library. */
   finder(): Finder;
 }
@@ -147,12 +154,20 @@ export class PostedMatch extends Match {
   limitPosts(most: number): void;
   /** The turns that have ended as the bytes of a script, which a TextMatch or the program answers alike. */
   journal(): Uint8Array;
+  /** Begins the journal anew, with one turn that adds what stands: the next turn is the second. */
+  forget(): void;
+  /** The digest of the turn that ended last; 0n where none has ended. */
+  digest(): bigint;
 }
 
 /** What stood when it was made, to be looked at beside its match. */
 export class View extends Owner {
   /** Another view of the same. */
   again(): View;
+  /** What stands as the bytes of a script: the map, and one turn in which caller 0 adds all that stands. */
+  snapshot(): Uint8Array;
+  /** The digest of the snapshot: where two players have the same, the same stands. */
+  digest(): bigint;
   passable(classNumber: number, i: number, j: number): boolean;
   /** The number of the cell's region in its chunk, or 0. */
   region(classNumber: number, i: number, j: number): number;

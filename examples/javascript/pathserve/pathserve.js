@@ -43,6 +43,14 @@ export class Failed extends Error {
   }
 }
 
+/** A script that opens no match: its line of this number is not in the grammar in its place, or past its limit. */
+export class BadScript extends Failed {
+  constructor(status, line) {
+    super(status);
+    Object.assign(this, { name: "BadScript", line });
+  }
+}
+
 function must(status) {
   if (status !== Status.DONE) throw new Failed(status);
 }
@@ -295,6 +303,11 @@ export class Library {
     return new PostedMatch(this, map);
   }
 
+  /** A match in which the bytes of a whole script of version 3 were played, such as a journal or a snapshot. */
+  scriptMatch(script) {
+    return new PostedMatch(this, script);
+  }
+
   /** The memory of searches, for views of any match of this library. */
   finder() {
     return new Finder(this);
@@ -331,6 +344,24 @@ class Owner {
     this.handle = 0;
   }
 
+  /** The bytes that a function writes, whose count it tells where its buffer is too small. */
+  written(name) {
+    let [whole] = this.library.room(8);
+    const status = this.call(name, 0n, 0n, BigInt(whole));
+    if (status !== Status.SMALL) must(status);
+    const count = Number(this.library.data.getBigUint64(whole, true));
+    const [again, at] = this.library.room(8, count);
+    must(this.call(name, BigInt(at), BigInt(count), BigInt(again)));
+    return this.library.bytes.slice(at, at + count);
+  }
+
+  /** The number of 64 bits that a function tells, a BigInt. */
+  number(name) {
+    const [at] = this.library.room(8);
+    must(this.call(name, BigInt(at)));
+    return this.library.data.getBigUint64(at, true);
+  }
+
   /** Keeps what was opened with DONE, and else frees the handle. */
   opened(status) {
     if (status !== Status.DONE) this.close();
@@ -341,17 +372,6 @@ class Owner {
 class Match extends Owner {
   constructor(library) {
     super(library, "close");
-  }
-
-  /** The bytes that a function writes to a buffer, once it has told how many they are. */
-  told(name) {
-    const [whole] = this.library.room(8);
-    const status = this.call(name, 0n, 0n, BigInt(whole));
-    if (status !== Status.SMALL) must(status);
-    const count = Number(this.library.data.getBigUint64(whole, true));
-    const [again, at] = this.library.room(8, count);
-    must(this.call(name, BigInt(at), BigInt(count), BigInt(again)));
-    return this.library.bytes.slice(at, at + count);
   }
 
   /** What stands after the turns that have ended. */
@@ -386,7 +406,7 @@ export class TextMatch extends Match {
 
   /** Why the line is bad at which the match has stopped, as the program says it. Empty as long as no line was bad. */
   cause() {
-    return new TextDecoder().decode(this.told("cause"));
+    return new TextDecoder().decode(this.written("cause"));
   }
 
   /** The bytes that wait. None waits then. */
@@ -405,8 +425,25 @@ export class TextMatch extends Match {
 
 /** A match by posts: see `Library.postedMatch`. */
 export class PostedMatch extends Match {
-  constructor(library, { width, height, callers, classes, base = [], masks = null }) {
+  constructor(library, start) {
     super(library);
+    if (ArrayBuffer.isView(start)) this.#openScript(start);
+    else this.#openMap(start);
+  }
+
+  #openScript(script) {
+    const [line, at] = this.library.room(8, script.length);
+    this.library.bytes.set(script, at);
+    const status = this.call("open_script", BigInt(at), BigInt(script.length), BigInt(line));
+    const isBad = status === Status.BAD_LINE || status === Status.TOO_LONG;
+    const bad = isBad ? Number(this.library.data.getBigUint64(line, true)) : 0;
+    if (status !== Status.DONE) this.close();
+    if (isBad) throw new BadScript(status, bad);
+    must(status);
+  }
+
+  #openMap({ width, height, callers, classes, base = [], masks = null }) {
+    const { library } = this;
     const terrain = masks ? MASK * masks.length : RECT.size * base.length;
     const [map, itsClasses, itsTerrain] = library.room(MAP.size, CLASS * classes.length, terrain);
     library.write(map, MAP, { width, height, callers });
@@ -463,7 +500,17 @@ export class PostedMatch extends Match {
 
   /** The turns that have ended as the bytes of a script, which a TextMatch or the program answers alike. */
   journal() {
-    return this.told("journal");
+    return this.written("journal");
+  }
+
+  /** Begins the journal anew, with one turn that adds what stands: the next turn is the second. */
+  forget() {
+    must(this.call("forget"));
+  }
+
+  /** The digest of the turn that ended last, a BigInt; 0n where none has ended. */
+  digest() {
+    return this.number("turn_digest");
   }
 
   /** Lets at most so many posts wait for the end of a turn. */
@@ -483,6 +530,16 @@ export class View extends Owner {
     const view = new View(this.library);
     view.opened(this.call("view_again", BigInt(view.handle)));
     return view;
+  }
+
+  /** What stands as the bytes of a script: the map, and one turn in which caller 0 adds all that stands. */
+  snapshot() {
+    return this.written("snapshot");
+  }
+
+  /** The digest of the snapshot, a BigInt: where two players have the same, the same stands. */
+  digest() {
+    return this.number("view_digest");
   }
 
   passable(classNumber, i, j) {

@@ -11,7 +11,7 @@ one wait for one another, and those of distinct ones do not.
 """
 from .finders import Finder
 from .matches import PostedMatch, TextMatch, Turn
-from .native import BadLine, BadPost, Failed, Fault, OutOfMemory, Status, load, text_of
+from .native import BadLine, BadPost, BadScript, Failed, Fault, OutOfMemory, Status, load, text_of
 from .posts import (
     NAVCELL,
     Cell,
@@ -37,7 +37,7 @@ from .posts import (
 from .views import FlowField, View
 
 __all__ = [
-    "NAVCELL", "BadLine", "BadPost", "Cell", "Failed", "Fault", "Finder", "FlowField", "Goal", "GoalKind", "Kind", "OutOfMemory",
-    "PassabilityClass", "Path", "Post", "PostKind", "PostedMatch", "Rect", "Refusal", "Region", "Reply", "Status", "TextMatch", "Turn",
-    "View", "add_square", "add_unit", "fixed", "load", "move", "path", "region", "remove", "text_of",
+    "NAVCELL", "BadLine", "BadPost", "BadScript", "Cell", "Failed", "Fault", "Finder", "FlowField", "Goal", "GoalKind", "Kind",
+    "OutOfMemory", "PassabilityClass", "Path", "Post", "PostKind", "PostedMatch", "Rect", "Refusal", "Region", "Reply", "Status",
+    "TextMatch", "Turn", "View", "add_square", "add_unit", "fixed", "load", "move", "path", "region", "remove", "text_of",
 ]

@@ -5,7 +5,7 @@ import ctypes
 from typing import Iterable, NamedTuple, Sequence
 
 from . import native
-from .native import BadLine, BadPost, Fault, OutOfMemory, Status, filled, must
+from .native import BadLine, BadPost, BadScript, Fault, OutOfMemory, Status, filled, must, written
 from .owners import Owner
 from .posts import PassabilityClass, Post, Rect, Reply, cell_of, reply_of
 from .views import View
@@ -50,14 +50,8 @@ class TextMatch(_Match):
 
     def cause(self) -> str:
         """Why the line is bad at which the match has stopped, as the program says it. Empty as long as no line was bad."""
-        whole = ctypes.c_size_t()
         with self._lock:
-            status = self._call("cause", None, 0, whole)
-            if status != Status.SMALL:
-                must(status)
-            buffer = ctypes.create_string_buffer(whole.value)
-            must(self._call("cause", buffer, whole.value, whole))
-        return buffer.raw[: whole.value].decode()
+            return written(lambda *room: self._call("cause", *room)).decode()
 
     def _must(self, status: int) -> None:
         if status == Status.BAD_LINE:
@@ -144,11 +138,27 @@ class PostedMatch(_Match):
 
     def journal(self) -> bytes:
         """The turns that have ended as a script, which a TextMatch or the program answers alike."""
-        whole = ctypes.c_size_t()
         with self._lock:
-            status = self._call("journal", None, 0, whole)
-            if status != Status.SMALL:
-                must(status)
-            buffer = ctypes.create_string_buffer(whole.value)
-            must(self._call("journal", buffer, len(buffer), whole))
-        return buffer.raw
+            return written(lambda *room: self._call("journal", *room))
+
+    @classmethod
+    def of_script(cls, script: bytes) -> PostedMatch:
+        """A match in which a whole script of version 3 was played, such as a journal or a snapshot. BadScript where it is none."""
+        match, bad_line = cls.__new__(cls), ctypes.c_uint64()
+        _Match.__init__(match)
+        its = bytes(memoryview(script))
+        status = match._call("open_script", its, len(its), bad_line)
+        if status in (Status.BAD_LINE, Status.TOO_LONG):
+            raise BadScript(status, bad_line.value)
+        must(status)
+        return match
+
+    def forget(self) -> None:
+        """Begins the journal anew, with one turn that adds what stands: the next turn is the second."""
+        must(self._call("forget"))
+
+    def digest(self) -> int:
+        """The digest of the turn that ended last, as tools/digests.py makes it of the turn's text; 0 where none has ended."""
+        digest = ctypes.c_uint64()
+        must(self._call("turn_digest", digest))
+        return digest.value

@@ -6,6 +6,7 @@ import enum
 import functools
 import os
 from ctypes import POINTER, c_int32, c_size_t, c_uint8, c_uint16, c_uint32, c_uint64, c_void_p
+from typing import Callable
 
 VERSION_MAJOR, VERSION_MINOR, ANSWERS = 0, 1, 2
 
@@ -65,6 +66,14 @@ class BadLine(Failed):
     def __init__(self, cause: str) -> None:
         super().__init__(Status.BAD_LINE, cause)
         self.cause = cause
+
+
+class BadScript(Failed):
+    """A script that opens no match: the line of this number is not in the grammar in its place, or past its limit."""
+
+    def __init__(self, status: int, line: int) -> None:
+        super().__init__(status, f"line {line}")
+        self.line = line
 
 
 class MatchHandle(ctypes.Structure):
@@ -174,6 +183,11 @@ CALLS = {
     "field": (c_uint32, [VIEW, POINTER(PostStruct), POINTER(ReplyStruct), c_void_p, c_size_t, POINTER(c_uint64), c_size_t]),
     "clear": (c_uint32, [VIEW, c_uint32, POINTER(CellStruct), POINTER(CellStruct)]),
     "smooth": (c_uint32, [VIEW, c_uint32, POINTER(CellStruct), POINTER(CellStruct), c_size_t, SIZE]),
+    "open_script": (c_uint32, [MATCH, c_void_p, c_size_t, POINTER(c_uint64)]),
+    "snapshot": (c_uint32, [VIEW, c_void_p, c_size_t, SIZE]),
+    "forget": (c_uint32, [MATCH]),
+    "turn_digest": (c_uint32, [MATCH, POINTER(c_uint64)]),
+    "view_digest": (c_uint32, [VIEW, POINTER(c_uint64)]),
 }
 
 
@@ -202,6 +216,17 @@ def text_of(name: str, *numbers: int) -> str:
     buffer = ctypes.create_string_buffer(TEXT)
     count = getattr(load(), "pathserve_" + name)(*numbers, buffer, TEXT)
     return buffer.raw[:count].decode()
+
+
+def written(write: Callable[..., int]) -> bytes:
+    """The bytes that a call writes into a buffer of the size that it tells."""
+    whole = c_size_t()
+    status = write(None, 0, whole)
+    if status != Status.SMALL:
+        must(status)
+    buffer = ctypes.create_string_buffer(whole.value)
+    must(write(buffer, len(buffer), whole))
+    return buffer.raw
 
 
 SHARED = "pathserve.dll" if os.name == "nt" else "libpathserve.so.0"

@@ -6,7 +6,7 @@ from dataclasses import dataclass
 from typing import Sequence
 
 from . import native
-from .native import filled, must
+from .native import filled, must, written
 from .owners import Owner
 from .posts import Cell, Post, Reply, cell_of, post_of, reply_of
 
@@ -95,6 +95,17 @@ class View(Owner):
         structs = (native.PostStruct * whole.value)()
         must(self._call("standing", 0, structs, len(structs), whole))
         return [post_of(it) for it in structs]
+
+    def snapshot(self) -> bytes:
+        """What stands as a script: the map, and one turn in which caller 0 adds all that stands."""
+        with self._lock:
+            return written(lambda *room: self._call("snapshot", *room))
+
+    def digest(self) -> int:
+        """The digest of the snapshot: where two players have the same, the same stands."""
+        digest = ctypes.c_uint64()
+        must(self._call("view_digest", digest))
+        return digest.value
 
     def find(self, post: Post) -> Reply:
         """Answers a path or a region at once, as a turn without edits would. The match knows nothing of it."""

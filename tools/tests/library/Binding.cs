@@ -144,6 +144,39 @@ public static class Binding
         Refused(Status.Closed, () => finder.FindAll(view, new Post[0], ref replies, ref cells), "a closed finder");
     }
 
+    /// <summary>A match that is opened from a script and from what stands, and forgets: all have one digest.</summary>
+    private static void Saves(byte[] script)
+    {
+        Reply[] replies = null;
+        Cell[] cells = null;
+        Post ask = Post.PathToPoint(0, 0, Navcell, Navcell, 10 * Navcell, Navcell);
+        using (PostedMatch match = new PostedMatch(script))
+        {
+            Must(match.Digest() != 0 && match.Journal().Length > 0, "a match that was not played");
+            byte[] saved;
+            ulong stands;
+            using (View view = match.View())
+            {
+                saved = view.Snapshot();
+                stands = view.Digest();
+            }
+            using (PostedMatch late = new PostedMatch(saved))
+            using (View view = late.View())
+            {
+                Must(view.Digest() == stands && view.Standing().Length == 1, "something else stands");
+                match.Forget();
+                Must(Convert.ToBase64String(match.Journal()) == Convert.ToBase64String(saved), "a journal that is not begun anew");
+                foreach (PostedMatch it in new[] { match, late })
+                {
+                    it.Post(ask);
+                    Must(it.EndTurn(ref replies, ref cells).Number == 2, "another turn");
+                }
+                Must(match.Digest() == late.Digest() && match.Digest() != 0, "players out of step");
+            }
+        }
+        Refused(Status.BadLine, () => new PostedMatch(new byte[] { 10 }), "a script of an empty line");
+    }
+
     public static void Main()
     {
         LongPaths();
@@ -151,6 +184,7 @@ public static class Binding
         Misuse();
         MemoryStream script = new MemoryStream();
         Console.OpenStandardInput().CopyTo(script);
+        Saves(script.ToArray());
         byte[] text = Answers(script.ToArray());
         Console.OpenStandardOutput().Write(text, 0, text.Length);
     }

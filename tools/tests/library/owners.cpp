@@ -1,6 +1,7 @@
 // Asks the header for C++ what its example does not: a script by text, owners that move, views, buffers that grow, and misuse.
 // Writes the answers to the script on standard input.
 #include "pathserve.hpp"
+#include <algorithm>
 #include <cstdio>
 #include <iostream>
 #include <iterator>
@@ -143,6 +144,35 @@ void grids() {
     match.post(region(0, 0, {0, 0}));
 }
 
+void saves() {
+    Match match = comb(8);
+    Replies replies;
+    holds(match.digest() == 0, "a digest of no turn");
+    match.post({add_unit(0, 7, 1, {4 * navcell, 4 * navcell}, navcell), across(8)});
+    match.end_turn(replies);
+    match.post(move_to(0, 7, {5 * navcell, 4 * navcell}));
+    match.end_turn(replies);
+    View view = match.view();
+    std::string saved = view.snapshot();
+    Match late = Match::of_script(saved), again = Match::of_script(match.journal());
+    holds(late.view().digest() == view.digest() && again.view().snapshot() == saved, "something else stands");
+    holds(again.digest() == match.digest() && match.digest() != 0, "another last turn");
+    match.forget();
+    holds(match.journal() == saved && late.journal() == saved, "a journal that is not begun anew");
+    for (Match *its : {&match, &late, &again}) {
+        its->post(across(8));
+        holds(its->end_turn(replies).turn == (its == &again ? 3u : 2u), "another turn");
+    }
+    holds(late.digest() == match.digest() && again.digest() == match.digest(), "players out of step");
+    std::uint64_t line = 0;
+    try {
+        Match::of_script(saved.substr(0, saved.size() - 1) + "{}");
+    } catch (const BadScript &bad) {
+        line = bad.line();
+    }
+    holds(line == static_cast<std::uint64_t>(std::count(saved.begin(), saved.end(), '\n')), "another bad line");
+}
+
 void misuse() {
     Match match = comb(8);
     Finder finder;
@@ -178,6 +208,7 @@ int main() {
     edits();
     texts();
     grids();
+    saves();
     misuse();
     std::string script{std::istreambuf_iterator<char>(std::cin), {}};
     std::cout << answers(script);

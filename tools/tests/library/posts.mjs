@@ -98,6 +98,24 @@ function looked(match, asked, replies, standing, size) {
   view.close();
 }
 
+/** A match that is opened from its journal or from what stands, or that forgets, is where it was. */
+function saved(match) {
+  const view = match.view(), snapshot = view.snapshot(), last = match.digest();
+  const whole = library.scriptMatch(match.journal()), late = library.scriptMatch(snapshot);
+  assert.equal(whole.digest(), last);
+  for (const it of [whole, late]) {
+    const stands = it.view();
+    assert.deepEqual([stands.snapshot(), stands.digest()], [snapshot, view.digest()]);
+    stands.close();
+    it.forget();
+  }
+  match.forget();
+  if (last !== 0n) for (const it of [match, whole, late]) assert.deepEqual(it.journal(), snapshot);
+  assert.equal(match.digest(), last);
+  assert.throws(() => library.scriptMatch(new Uint8Array([10])), { name: "BadScript", line: 1 });
+  [view, whole, late].forEach((it) => it.close());
+}
+
 function played(script) {
   const lines = script.trimEnd().split("\n").map((it) => JSON.parse(it)), { version, size, callers, classes } = lines[0];
   const names = classes.map((it) => it.name), posts = lines.slice(1).map((it) => (it.caller === undefined ? it : postOf(it, version, names)));
@@ -122,6 +140,7 @@ function played(script) {
   again.feed(match.journal());
   if (again.takeText() !== text) throw new Error("the journal is answered otherwise");
   again.close();
+  saved(match);
   match.close();
   return text;
 }

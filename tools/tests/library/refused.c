@@ -194,6 +194,35 @@ static pathserve_status play_turn(pathserve_match *match, const pathserve_post *
     return status;
 }
 
+/* A match is opened from its journal and from a snapshot, and its journal begins anew: it stays in step. */
+static pathserve_status go_on(pathserve_match *match, const uint8_t *journal, size_t bytes) {
+    static uint8_t saved[4096], again[4096];
+    pathserve_match from_journal = {0}, from_snapshot = {0};
+    pathserve_view view = {0};
+    uint64_t bad_line = 0, digest = 0, other = 0, stands = 0;
+    size_t size = 0, other_size = 0;
+    pathserve_status status;
+    AGAIN(status, pathserve_view_of(match, &view));
+    if (status == PATHSERVE_DONE) AGAIN(status, pathserve_snapshot(&view, saved, sizeof saved, &size));
+    if (status == PATHSERVE_DONE) AGAIN(status, pathserve_view_digest(&view, &stands));
+    pathserve_view_close(&view);
+    if (status == PATHSERVE_DONE) AGAIN(status, pathserve_open_script(&from_journal, journal, bytes, &bad_line));
+    if (status == PATHSERVE_DONE) AGAIN(status, pathserve_open_script(&from_snapshot, saved, size, &bad_line));
+    if (status == PATHSERVE_DONE) AGAIN(status, pathserve_turn_digest(match, &digest));
+    if (status == PATHSERVE_DONE) AGAIN(status, pathserve_turn_digest(&from_journal, &other));
+    if (status == PATHSERVE_DONE && digest != other) fail("a match opened from its journal has another digest", first_refused);
+    if (status == PATHSERVE_DONE) AGAIN(status, pathserve_forget(match));
+    if (status == PATHSERVE_DONE) AGAIN(status, pathserve_journal(match, again, sizeof again, &other_size));
+    if (status == PATHSERVE_DONE && (other_size != size || memcmp(again, saved, size))) fail("another journal", first_refused);
+    if (status == PATHSERVE_DONE) tell(saved, size);
+    if (status == PATHSERVE_DONE) tell(&stands, sizeof stands);
+    if (status == PATHSERVE_DONE) status = play_turn(match, &ask, 1);
+    if (status == PATHSERVE_DONE) status = play_turn(&from_snapshot, &ask, 1);
+    pathserve_close(&from_snapshot);
+    pathserve_close(&from_journal);
+    return status;
+}
+
 static pathserve_status play_posts(int is_grid) {
     const pathserve_post first[] = {
         {.kind = PATHSERVE_ADD_SQUARE, .id = 1, .mask = 3, .x = 393216, .z = 196608, .ux = 65536, .hw = 32768, .hh = 131072},
@@ -213,6 +242,7 @@ static pathserve_status play_posts(int is_grid) {
     if (status == PATHSERVE_DONE) status = look(&match);
     if (status == PATHSERVE_DONE) AGAIN(status, pathserve_journal(&match, journal, sizeof journal, &bytes));
     if (status == PATHSERVE_DONE) tell(journal, bytes);
+    if (status == PATHSERVE_DONE) status = go_on(&match, journal, bytes);
     pathserve_close(&match);
     return status;
 }

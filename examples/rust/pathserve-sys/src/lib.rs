@@ -266,4 +266,10 @@ extern "C" {
         count: usize,
         kept: *mut usize,
     ) -> u32;
+
+    pub fn pathserve_open_script(its: *mut Match, script: *const u8, length: usize, bad_line: *mut u64) -> u32;
+    pub fn pathserve_snapshot(view: *mut View, buffer: *mut u8, length: usize, whole: *mut usize) -> u32;
+    pub fn pathserve_forget(its: *mut Match) -> u32;
+    pub fn pathserve_turn_digest(its: *mut Match, digest: *mut u64) -> u32;
+    pub fn pathserve_view_digest(view: *mut View, digest: *mut u64) -> u32;
 }

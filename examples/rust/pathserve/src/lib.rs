@@ -30,6 +30,8 @@ pub enum Error {
     BadLine,
     /// A line or the script is past its limit. The match has stopped.
     TooLong,
+    /// The script opens no match: this line of it is not in the grammar in its place, or past its limit.
+    BadScript { line: u64 },
     /// There was no memory; so many of the bytes that were fed were taken.
     OutOfMemory { taken: usize },
     /// The script has been finished.
@@ -49,6 +51,7 @@ impl std::fmt::Display for Error {
         match self {
             Error::BadLine => write!(out, "a line is bad"),
             Error::TooLong => write!(out, "a line or the script is too long"),
+            Error::BadScript { line } => write!(out, "line {line} of the script is bad"),
             Error::OutOfMemory { .. } => write!(out, "out of memory"),
             Error::Ended => write!(out, "the script has been finished"),
             Error::NoMap => write!(out, "the map line has not come"),
@@ -81,6 +84,18 @@ pub fn version() -> String {
     // SAFETY: a buffer with its length.
     let count = unsafe { sys::pathserve_version_text(text.as_mut_ptr(), text.len()) };
     String::from_utf8_lossy(&text[..count]).into_owned()
+}
+
+/// The bytes that a call writes into a buffer, of which it tells the size where it is too small.
+fn written(mut write: impl FnMut(&mut [u8], &mut usize) -> u32) -> Result<Vec<u8>, Error> {
+    let mut text = Vec::new();
+    loop {
+        let mut whole = 0;
+        match write(&mut text, &mut whole) {
+            sys::SMALL => text.resize(whole, 0),
+            status => return must(status).map(|()| text),
+        }
+    }
 }
 
 fn same_version() -> Result<(), Error> {

@@ -1,6 +1,6 @@
 //! Matches by text and by posts.
 use crate::posts::{reply_of, Class, Post, Reply};
-use crate::{must, same_version, Error, View};
+use crate::{must, same_version, written, Error, View};
 use pathserve_sys as sys;
 use std::ptr;
 
@@ -70,16 +70,11 @@ impl TextMatch {
 
     /// Why the line is bad at which the match has stopped, as the program says it. Empty as long as no line was bad.
     pub fn cause(&mut self) -> Result<String, Error> {
-        let mut text = Vec::new();
-        loop {
-            let mut whole = 0;
-            // SAFETY: the buffer has its length.
-            let status = unsafe { sys::pathserve_cause(self.handle(), text.as_mut_ptr(), text.len(), &mut whole) };
-            match status {
-                sys::SMALL => text.resize(whole, 0),
-                status => return must(status).map(|()| String::from_utf8_lossy(&text).into_owned()),
-            }
-        }
+        // SAFETY: an exclusive handle, and a buffer with its length.
+        let text = written(|buffer, whole| unsafe {
+            sys::pathserve_cause(self.handle(), buffer.as_mut_ptr(), buffer.len(), whole)
+        })?;
+        Ok(String::from_utf8_lossy(&text).into_owned())
     }
 
     /// The text that waits. None waits then.
@@ -228,17 +223,34 @@ impl PostedMatch {
 
     /// The turns that have ended as a script, which a [`TextMatch`] or the program answers alike.
     pub fn journal(&mut self) -> Result<Vec<u8>, Error> {
-        let mut script = Vec::new();
-        loop {
-            let mut whole = 0;
-            // SAFETY: the buffer has its length.
-            let status =
-                unsafe { sys::pathserve_journal(self.handle(), script.as_mut_ptr(), script.len(), &mut whole) };
-            match status {
-                sys::SMALL => script.resize(whole, 0),
-                status => return must(status).map(|()| script),
-            }
+        // SAFETY: the buffer has its length.
+        written(|buffer, whole| unsafe {
+            sys::pathserve_journal(self.handle(), buffer.as_mut_ptr(), buffer.len(), whole)
+        })
+    }
+
+    /// A match in which a whole script of version 3 was played, such as a journal or the snapshot of a view.
+    pub fn of_script(script: &[u8]) -> Result<PostedMatch, Error> {
+        let (mut owned, mut line) = (Owned::closed()?, 0);
+        // SAFETY: a closed handle that is all zero, and a slice with its length.
+        let status = unsafe { sys::pathserve_open_script(&mut owned.0, script.as_ptr(), script.len(), &mut line) };
+        match status {
+            sys::BAD_LINE | sys::TOO_LONG => Err(Error::BadScript { line }),
+            status => must(status).map(|()| PostedMatch(owned)),
         }
+    }
+
+    /// Begins the journal anew, with one turn that adds what stands: the next turn is the second.
+    pub fn forget(&mut self) -> Result<(), Error> {
+        // SAFETY: an exclusive handle.
+        must(unsafe { sys::pathserve_forget(self.handle()) })
+    }
+
+    /// The digest of the turn that ended last; 0 where none has ended.
+    pub fn digest(&mut self) -> Result<u64, Error> {
+        let mut digest = 0;
+        // SAFETY: an exclusive handle, and a number that may be written.
+        must(unsafe { sys::pathserve_turn_digest(self.handle(), &mut digest) }).map(|()| digest)
     }
 
     /// What stands after the turns that have ended.

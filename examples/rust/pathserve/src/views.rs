@@ -1,6 +1,6 @@
 //! Views of what stands.
 use crate::posts::{add_of, reply_of, Post, Reply};
-use crate::{must, Error};
+use crate::{must, written, Error};
 use pathserve_sys as sys;
 use std::ptr;
 
@@ -76,6 +76,21 @@ impl View {
             }
             posts.resize(whole as usize, sys::Post::default());
         }
+    }
+
+    /// What stands as a script: the map, and one turn in which caller 0 adds all that stands.
+    pub fn snapshot(&mut self) -> Result<Vec<u8>, Error> {
+        // SAFETY: the buffer has its length.
+        written(|buffer, whole| unsafe {
+            sys::pathserve_snapshot(&mut self.0, buffer.as_mut_ptr(), buffer.len(), whole)
+        })
+    }
+
+    /// The digest of the snapshot: where two players have the same, the same stands.
+    pub fn digest(&mut self) -> Result<u64, Error> {
+        let mut digest = 0;
+        // SAFETY: an exclusive handle, and a number that may be written.
+        must(unsafe { sys::pathserve_view_digest(&mut self.0, &mut digest) }).map(|()| digest)
     }
 
     /// Answers a path or a region at once, as a turn without edits would. The match knows nothing of it.

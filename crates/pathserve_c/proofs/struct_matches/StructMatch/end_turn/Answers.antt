@@ -1,7 +1,7 @@
 use Rattle.std.proofs.Common.{ℕ, ap, length, sym, subst, ◌∙◌}
 use Rattle.script_text.specs.Canon.{HaveLines}
 use Rattle.flat_posts.proofs.TurnLists.{length-turn_of}
-use Rattle.pathserve_c.proofs.Turning.{lines_of_3}
+use Rattle.match_play.proofs.NewestLines.{lines_of_3}
 use Rattle.pathserve_c.proofs.struct_matches.StructMatch.end_turn.Goals as goal
 
 pub end_turn-requires-clause-lists : goal.end_turn-requires-clause-lists

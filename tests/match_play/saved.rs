@@ -1,0 +1,90 @@
+//! Matches that are opened from a script, go on from what stands, and are compared by digests.
+
+use super::*;
+use match_play::{DIGEST_PRIME, OpenedMatch, digest_of, open_script, snapshot, turn_digest};
+
+/// A match opened from a script, and a turn more, which is the second of that script.
+fn opened(alloc: Global, script: &[&str]) -> Result<OpenedMatch, MatchFault> {
+    let script = joined(alloc, script)?;
+    open_script(alloc, script.as_slice())
+}
+
+/// The digest of bytes, as it is defined.
+fn defined_digest(bytes: &[u8]) -> u64 {
+    let mut digest = 0u128;
+    for byte in bytes {
+        digest = (digest * 256 + u128::from(*byte)) % u128::from(DIGEST_PRIME);
+    }
+    digest as u64
+}
+
+#[test]
+fn digests_are_remainders(rt: HostRuntime) {
+    let bytes = [255u8; 64];
+    for count in 0..64usize {
+        assert!(rt; digest_of(&bytes[..count]) == defined_digest(&bytes[..count]));
+    }
+    assert!(rt; digest_of(b"".as_slice()) == 0);
+    assert!(rt; digest_of(b"\x01\x00".as_slice()) == 256);
+}
+
+/// Whether a script that is opened tells the digest of its last turn, and is written as it was.
+fn is_opened(alloc: Global, script: &[&str], digest: u64) -> Result<bool, MatchFault> {
+    let whole = joined(alloc, script)?;
+    let OpenedMatch { game, told } = opened(alloc, script)?;
+    let same = game.script(alloc)?.as_slice() == whole.as_slice();
+    match told {
+        Some(told) => Ok(same && turn_digest(alloc, &told)? == digest),
+        None => Ok(same && digest == 0),
+    }
+}
+
+#[test]
+fn a_script_opens_a_match(rt: HostRuntime) {
+    let map = [SKIRMISH[0]];
+    assert!(rt; is_opened(rt.alloc(), &map, 0) == Ok(true));
+    assert!(rt; is_opened(rt.alloc(), FIRST, 0) == Ok(false));
+    assert!(rt; has_digest(rt.alloc(), &SKIRMISH[..7], 0xf9ac_ccc9_9498_5fb6) == Ok(true));
+    assert!(rt; has_digest(rt.alloc(), SKIRMISH, 0x9d97_5c6f_e012_e721) == Ok(true));
+}
+
+/// Whether the last turn of a script has a digest.
+fn has_digest(alloc: Global, script: &[&str], digest: u64) -> Result<bool, MatchFault> {
+    match opened(alloc, script)?.told {
+        Some(told) => Ok(turn_digest(alloc, &told)? == digest),
+        None => Ok(false),
+    }
+}
+
+/// The line at which a script stops.
+fn stop_of(alloc: Global, script: &[&str]) -> Result<u64, MatchFault> {
+    match opened(alloc, script) {
+        Ok(_) => Ok(0),
+        Err(MatchFault::BadLine(number)) => Ok(number),
+        Err(fault) => Err(fault),
+    }
+}
+
+#[test]
+fn a_bad_script_opens_none(rt: HostRuntime) {
+    assert!(rt; stop_of(rt.alloc(), &[]) == Ok(1));
+    assert!(rt; stop_of(rt.alloc(), &[MAP_LINE]) == Ok(0));
+    assert!(rt; stop_of(rt.alloc(), &[MAP_LINE, "{\"end\":2}\n"]) == Ok(2));
+    assert!(rt; stop_of(rt.alloc(), &[MAP_LINE, "{\"caller\":0,\"remove\":1}\n"]) == Ok(3));
+}
+
+/// Whether a match forgets how what stands came to stand, and its journal is then the snapshot, which opens it again.
+fn forgets(alloc: Global) -> Result<bool, MatchFault> {
+    let OpenedMatch { mut game, .. } = opened(alloc, SKIRMISH)?;
+    let saved = snapshot(alloc, game.version())?;
+    game.forget(alloc)?;
+    let same = game.script(alloc)?.as_slice() == saved.as_slice();
+    let again = open_script(alloc, saved.as_slice())?;
+    let stands = snapshot(alloc, again.game.version())?;
+    Ok(same && game.journal().len() == 1 && stands.as_slice() == saved.as_slice())
+}
+
+#[test]
+fn a_match_forgets(rt: HostRuntime) {
+    assert!(rt; forgets(rt.alloc()) == Ok(true));
+}
