@@ -1,6 +1,4 @@
-pub mod SavedMaps
 pub mod GoingOn
-pub mod WhatStands
 pub mod SavedLines
 pub mod AnswerWords
 pub mod ToldLines

@@ -28,9 +28,9 @@ use Rattle.script_text.specs.Grammar.{shape_decimals}
 use Rattle.script_text.specs.Canon.{is_post_of, HaveLines}
 use Rattle.script_text.specs.Script.{no_posts}
 use Rattle.script_text.specs.ReadsBack.{AreFixed, IsPostValue, ArePostValues, AreTurns}
-use Rattle.match_laws.specs.SavedMatches.{add_of, adds_of, turn_by_first, saved}
-use Rattle.match_laws.proofs.SavedMaps.{found_there}
-use Rattle.match_laws.proofs.WhatStands.{after_add}
+use Rattle.match_play.specs.Saved.{add_of, adds_of, turn_by_first, saved}
+use Rattle.match_play.proofs.SavedMaps.{found_there}
+use Rattle.match_play.proofs.WhatStands.{after_add}
 
 -- the post has a line in the version, and its numbers fit
 abbrev IsWritable : ℕ → Post → Type 0

@@ -13,9 +13,10 @@ use Rattle.posts.specs.Callers.{of_caller}
 use Rattle.grid_versions.specs.Fitting.{fits}
 use Rattle.turn_core.specs.Words.{bare}
 use Rattle.turn_core.specs.Turns.{standing, after_turn, AreReplies, AreTurnReplies, OneThread, replies_in, IsOneThread}
-use Rattle.match_laws.specs.SavedMatches.{add_of, adds_of, added_to, turn_by_first, saved}
-use Rattle.match_laws.proofs.SavedMaps.{Entry, next_goes, entry_added, entries_next, no_entries}
-use Rattle.match_laws.proofs.WhatStands.{all_fit, few_stand}
+use Rattle.match_play.specs.Saved.{add_of, adds_of, turn_by_first, saved}
+use Rattle.match_laws.specs.SavedMatches.{added_to}
+use Rattle.match_play.proofs.SavedMaps.{Entry, next_goes, entry_added, entries_next, no_entries}
+use Rattle.match_play.proofs.WhatStands.{all_fit, few_stand}
 
 add_told : (id : ℕ) (fit known full : Bool) → fit ≡ true → known ≡ false → full ≡ false
     → cond (not fit) (Refused BadShape) (cond known (Refused DuplicateId) (cond full (Refused StoreFull) (Added id))) ≡ Added id

@@ -8,7 +8,8 @@ ghost use Rattle.posts.specs.Callers.{of_caller};
 ghost use Rattle.turn_core.specs.Words.{bare};
 ghost use Rattle.turn_core.specs.Turns.{standing, replies_in, IsOneThread};
 ghost use Rattle.script_text.specs.ReadsBack.{AreTurns};
-ghost use Rattle.match_laws.specs.SavedMatches.{added_to, saved};
+ghost use Rattle.match_play.specs.Saved.{saved};
+ghost use Rattle.match_laws.specs.SavedMatches.{added_to};
 
 /// A law: the replies to further turns depend on the map and what stands alone. Where two journals leave the same
 /// standing obstructions, the same turns after them are answered alike, numbers of relabelled regions included.

@@ -7,7 +7,7 @@ ghost use Rattle.posts.specs.declared.replies.TurnReplies.{TurnReplies};
 ghost use Rattle.posts.specs.Maps.{Map};
 ghost use Rattle.turn_core.specs.Words.{bare};
 ghost use Rattle.turn_core.specs.Turns.{standing};
-ghost use Rattle.match_laws.specs.SavedMatches.{saved};
+ghost use Rattle.match_play.specs.Saved.{saved};
 ghost use Rattle.match_laws.specs.OpenedTexts.{IsMatchText, GoesOnWith};
 
 /// A law: where two journals leave the same standing obstructions, the same turns after them have the same text under

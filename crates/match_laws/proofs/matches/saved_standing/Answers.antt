@@ -1,4 +1,4 @@
-use Rattle.match_laws.proofs.WhatStands.{saved_stands}
+use Rattle.match_play.proofs.WhatStands.{saved_stands}
 use Rattle.match_laws.proofs.matches.saved_standing.Goals as goal
 
 pub returns : goal.returns
