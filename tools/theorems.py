@@ -70,7 +70,7 @@ PARTS = {
         ("The program writes the text of the answers, or stops early for a stated cause", "pathserve run", "pathserve: Replaying Progress OneThread ServedTexts SessionEnds WrittenTexts"),
         ("Each input has one output text", "pathserve one_out; match_laws each_input_has_an_output_text", "pathserve: OneText\nmatch_laws: OutputsExist"),
         ("A match that is fed with bytes cut anywhere tells the program's text", "match_play matches:feed; match_play matches:finish", "match_play: Playing Finishing LastItems Fits"),
-        ("A saved match gives the same answers", "match_laws saved_matches_go_on", "match_laws: GoingOn SavedReplies SavedMaps WhatStands"),
+        ("A saved match gives the same answers", "match_laws saved_matches_go_on", "match_laws: GoingOn SavedReplies\nmatch_play: SavedMaps WhatStands"),
     ],
 }
 
