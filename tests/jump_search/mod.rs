@@ -9,8 +9,8 @@ use crate::fixtures::texts::fields_of;
 use class_planes::{PlaneRuns, Planes};
 use jump_scan::CellRuns;
 use jump_search::{
-    Estimate, Guided, JumpSearch, Marked, Pool, Question, TargetEstimate, jump_search,
-    jump_search_with,
+    CostlyEstimate, Estimate, Guided, JumpSearch, Marked, Pool, Question, TargetEstimate,
+    jump_search, jump_search_with,
 };
 use landmarks::{Landmarks, MAX_TABLES};
 use nav_types::{Aim, Cell, Class, Dir, NoMemory, Size, Ticks, View, step};
@@ -251,7 +251,8 @@ fn asked_by_estimates(alloc: Global, pool: &mut Pool, line: &str) -> Option<[u32
         return None;
     }
     let tables = tables_of(alloc, &map, start)?;
-    let ahead = &TargetEstimate::Past(marked(&tables, aim)?);
+    let past = CostlyEstimate::Past(marked(&tables, aim)?);
+    let ahead = &TargetEstimate::Costly(past);
     let guided = Guided { question, ahead };
     let past = asked_runs(alloc, pool, &runs, &guided, &search)?;
     if pool.opened() > opened {
