@@ -20,6 +20,8 @@ use std::marker::Brand;
 use std::sync::ledger::{Blank, Ledger};
 use std::test::Fail;
 
+mod ways_out;
+
 /// In each line the rows of a map from the first up, `#` impassable, the start and the targets, and then the end, the
 /// cost and the waypoints of the answer, and how many jump states are opened. `tools/test_lines.py jumps` makes such a
 /// line.
