@@ -5,7 +5,7 @@ use io_edges::MemorySource;
 use match_play::{EndedTurn, Match, MatchFault, PostedMatch, Report};
 use nav_types::{Bytes, NoMemory};
 use posts::{Journal, TurnPosts};
-use script_text::{ScriptFault, ScriptItem, ScriptReader, have_lines};
+use script_text::{Cause, Key, ScriptFault, ScriptItem, ScriptReader, Wanted, have_lines};
 use std::alloc::Global;
 use std::test::*;
 
@@ -67,6 +67,25 @@ fn a_bad_line_stops_a_match(rt: HostRuntime) {
         let ends = Err(MatchFault::BadLine(2));
         assert!(rt; is_answered(rt.alloc(), &script, size, ends, &["bad line 2\n"]) == Ok(true));
     }
+}
+
+/// Whether a match has no cause before its first bad line, and that line's behind it.
+fn has_cause(alloc: Global) -> Result<bool, NoMemory> {
+    let script = joined(alloc, &[MAP_LINE, "{\"end\":2}\n", "{\"end\":1\n"])?;
+    let mut game = Match::open(alloc, Report::Answers);
+    let none = game.cause(alloc)?.is_none();
+    let mut bytes = script.as_slice();
+    let stopped = game.feed(alloc, &mut bytes) == Err(MatchFault::BadLine(2));
+    let cause = Cause::WrongValue {
+        key: Key::End,
+        wanted: Wanted::Turn { number: 1 },
+    };
+    Ok(none && stopped && game.cause(alloc)? == Some(cause))
+}
+
+#[test]
+fn a_bad_line_has_its_cause(rt: HostRuntime) {
+    assert!(rt; has_cause(rt.alloc()) == Ok(true));
 }
 
 /// Whether a match that has stopped at a line says so again, takes what is fed, and tells nothing more.

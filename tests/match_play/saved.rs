@@ -26,6 +26,8 @@ fn digests_are_remainders(rt: HostRuntime) {
     }
     assert!(rt; digest_of(b"".as_slice()) == 0);
     assert!(rt; digest_of(b"\x01\x00".as_slice()) == 256);
+    // these bytes are the prime
+    assert!(rt; digest_of(b"\xff\xff\xff\xff\xff\xff\xff\xc5".as_slice()) == 0);
 }
 
 /// Whether a script that is opened tells the digest of its last turn, and is written as it was.
@@ -84,7 +86,15 @@ fn forgets(alloc: Global) -> Result<bool, MatchFault> {
     Ok(same && game.journal().len() == 1 && stands.as_slice() == saved.as_slice())
 }
 
+/// Whether a match before its first turn has none when it forgets either.
+fn forgets_nothing(alloc: Global) -> Result<bool, MatchFault> {
+    let OpenedMatch { mut game, .. } = opened(alloc, &SKIRMISH[..2])?;
+    game.forget(alloc)?;
+    Ok(game.journal().is_empty())
+}
+
 #[test]
 fn a_match_forgets(rt: HostRuntime) {
     assert!(rt; forgets(rt.alloc()) == Ok(true));
+    assert!(rt; forgets_nothing(rt.alloc()) == Ok(true));
 }
