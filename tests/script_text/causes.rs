@@ -188,7 +188,7 @@ fn lines_of_version_3_have_causes(rt: HostRuntime) {
 type Slip = (&'static str, u64, Mistake, &'static str);
 
 /// A line for each mistake, and for some of them a second.
-const SLIPS: [Slip; 22] = [
+const SLIPS: [Slip; 23] = [
     (
         "{\"end\":1} // done\n",
         11,
@@ -260,6 +260,12 @@ const SLIPS: [Slip; 22] = [
         8,
         Mistake::Escape,
         "byte 8: a backslash in a string must stand before one of \" \\ / b f n r t u",
+    ),
+    (
+        "{\"a\\/b\":1,}\n",
+        11,
+        Mistake::TrailingComma,
+        "byte 11: no comma may stand before a closing bracket",
     ),
     (
         "{\"end\":1,}\n",
