@@ -3,7 +3,7 @@ use Rattle.std.proofs.Common.{ℕ, zero, suc, ◌≡◌, ◌+◌, ◌*◌, ◌/�
 use Rattle.std.proofs.Common.{set, get_or, refl, ap, sym, subst, ◌∙◌, arith, Option, None, Some, option_map, length-append}
 use Rattle.std.specs.Borrow.{MutBor}
 use Rattle.std.specs.Fn.{Once}
-use Rattle.std.specs.List.{All, flat_map, slice_get}
+use Rattle.std.specs.List.{All, AllZip, flat_map, slice_get}
 use Rattle.std.specs.Prelude.{IfNone, IfSome}
 use Rattle.std.proofs.lemmas.List.{set-append_left, set-append_right, append_assoc, append-nil, get_or-append-add}
 use Rattle.std.proofs.lemmas.List.{get_or-map, length-set, length-map, map-set, set-get_or}
@@ -248,3 +248,10 @@ module _ {A B : Type 0} (value : B → List A) (xs : List B) (rest : List A) (k 
 pub none_then : {R : Type 0} {P Q : Type 0} (given : Option R) → (P → Q) → IfNone given P → IfNone given Q
 none_then None goes is = goes is
 none_then (Some one) goes is = tt
+
+-- clones of items that others may hold have their values
+pub cloned : {A B : Type 0} (f : A → B) (xs ys : List A) → AllZip (λ x y. f y ≡ f x) xs ys → map f ys ≡ map f xs
+cloned f [] [] same = refl
+cloned f [] (y ∷ ys) same = absurd same
+cloned f (x ∷ xs) [] same = absurd same
+cloned f (x ∷ xs) (y ∷ ys) same = λ i. same.0 i ∷ cloned f xs ys same.1 i

@@ -67,9 +67,7 @@ impl<T> BlockList<T> {
         ensures { IfOk result (λ list. list ≡ self.now) }
     {
         let mut blocks = Vec::with_capacity(alloc, self.blocks.len())?;
-        for block in &self.blocks {
-            blocks.push(Arc::try_clone(block)?)?;
-        }
+        blocks.extend_with_clones(&self.blocks)?;
         Ok(BlockList {
             blocks,
             rest: self.rest.share(alloc)?,

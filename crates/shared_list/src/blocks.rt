@@ -89,9 +89,7 @@ impl<T> Block<T> {
         ensures { IfOk result (λ block. block ≡ self.now) }
     {
         let mut items = Vec::with_capacity(alloc, BLOCK)?;
-        for item in &self.items {
-            items.push(Arc::try_clone(item)?)?;
-        }
+        items.extend_with_clones(&self.items)?;
         Ok(Block { items })
     }
 
