@@ -1,12 +1,13 @@
 -- Rows of spans that are taken over from those of before.
-use Rattle.std.proofs.Common.{ℕ, zero, suc, ◌≡◌, ◌<◌, ◌≤◌, ◌+◌, ◌-◌, ◌*◌, ◌⊎◌, ◌&&◌, if◌then◌else◌, ◌∷◌, [], ◌++◌, List, length, length-append, take, drop, ap, refl, inl, inr, sym, subst, ◌∙◌, arith, Some}
+use Rattle.std.proofs.Common.{ℕ, zero, suc, ◌≡◌, ◌<◌, ◌≤◌, ◌+◌, ◌-◌, ◌*◌, ◌⊎◌, ◌&&◌, if◌then◌else◌, ◌∷◌, [], ◌++◌, List, length, length-append, map, take, drop, get_or, ap, refl, inl, inr, sym, subst, ◌∙◌, arith, Some}
 use Rattle.std.specs.List.{slice_get}
 use Rattle.std.specs.Prelude.{slice_index, replicate, nat_le, nat_lt}
 use Rattle.std.proofs.lemmas.Bool.{cases_Bool, and_parts, and_from, leb-true, le-leb}
-use Rattle.std.proofs.lemmas.List.{get_or-replicate, length-take-le, length-drop}
+use Rattle.std.proofs.lemmas.List.{append-nil, append_assoc, drop_all, drop_at, get_or-drop, get_or-replicate, get_or-take, length-take-le, length-drop, length-map, map_more, take_all, take_at}
 use Rattle.std.proofs.lemmas.Option.{slice_get_within}
 use Rattle.chunk_regions.specs.declared.spans.Span.{Span}
 use Rattle.chunk_regions.specs.inner.Spans.{Runs, AreSpans, Holds, IsCutTo, IsRowTo, bits_at, held_at, set_anew}
+use Rattle.chunk_regions.specs.inner.Moving.{moved}
 use Rattle.chunk_regions.proofs.RowLemmas.{IsCutTo-row}
 use Rattle.chunk_regions.proofs.SpanLemmas.{starts_rise, starts_to_end, region_at-held, region_at-some}
 
@@ -36,6 +37,41 @@ taken_at : {A : Type 0} (xs from : List A) (first count k : ℕ) → k < count
     → slice_get (xs ++ take count (drop first from)) (length xs + k) ≡ slice_get from (first + k)
 taken_at xs from first count k less =
     slice_get-after xs (take count (drop first from)) k ∙ slice_get-take count (drop first from) k less ∙ slice_get-drop first from k
+
+-- what stands behind a list in one that begins with it
+pub behind_is : (front back items now : List ℕ) (behind : ℕ) → items ≡ front ++ back → now ≡ items → behind ≡ length front
+    → take (length now - behind) (drop behind now) ≡ back
+behind_is front back items now behind is same at =
+    let whole : now ≡ front ++ back = same ∙ is in
+    let rest : drop behind now ≡ back = ap (λ (xs : List ℕ). drop behind xs) whole ∙ drop_at front back behind (sym at) in
+    let long = ap (λ (xs : List ℕ). length xs) whole in
+    let both = length-append front back in
+    let count : length now - behind ≡ length back = omega arith in
+    ap (λ n. take n (drop behind now)) count ∙ ap (λ (xs : List ℕ). take (length back) xs) rest ∙ take_all (length back) back (omega arith)
+
+-- the list with other items behind the front one
+pub put_behind : (f : ℕ → ℕ) (front back items now put : List ℕ) (behind count : ℕ) → items ≡ front ++ back → now ≡ items → behind ≡ length front
+    → count ≡ length items → put ≡ map f (take (length now - behind) (drop behind now))
+    → take count ((take behind now ++ (put ++ drop (length now - behind) (drop behind now)))
+    ++ drop (length (take behind now ++ (put ++ drop (length now - behind) (drop behind now)))) items) ≡ front ++ map f back
+put_behind f front back items now put behind count is same at all made =
+    let whole : now ≡ front ++ back = same ∙ is in
+    let first : take behind now ≡ front = ap (λ (xs : List ℕ). take behind xs) whole ∙ take_at front back behind (sym at) in
+    let rest : drop behind now ≡ back = ap (λ (xs : List ℕ). drop behind xs) whole ∙ drop_at front back behind (sym at) in
+    let long = ap (λ (xs : List ℕ). length xs) whole in
+    let same_long = ap (λ (xs : List ℕ). length xs) same in
+    let both = length-append front back in
+    let left : length now - behind ≡ length back = omega arith in
+    let none : drop (length now - behind) (drop behind now) ≡ [] =
+    ap (λ n. drop n (drop behind now)) left ∙ ap (λ (xs : List ℕ). drop (length back) xs) rest ∙ drop_all (length back) back (omega arith) in
+    let new : put ≡ map f back = made ∙ ap (λ (xs : List ℕ). map f xs) (behind_is front back items now behind is same at) in
+    let made_of : take behind now ++ (put ++ drop (length now - behind) (drop behind now)) ≡ front ++ map f back =
+    (λ i. first i ++ (new i ++ none i)) ∙ ap (λ (xs : List ℕ). front ++ xs) (append-nil (map f back)) in
+    let mapped = length-map back f in
+    let joined = length-append front (map f back) in
+    let fits : length (front ++ map f back) ≡ count = omega arith in
+    ap (λ (xs : List ℕ). take count (xs ++ drop (length xs) items)) made_of
+    ∙ take_at (front ++ map f back) (drop (length (front ++ map f back)) items) count fits
 
 -- ---- which columns are held
 
@@ -209,3 +245,65 @@ IsCutTo-taken on before are starts old from to row low high within same cut =
     (IsCutTo-row on starts (take a all) (take b all) row cut
     (λ k less. slice_get-take b all k (omega arith) ∙ sym (slice_get-take a all k (omega arith)))
     row_to)
+
+-- the places behind the last span of each row from one on to before another
+abbrev pub ends : Runs → ℕ → ℕ → List ℕ
+ends before from count = take count (drop (from + 1) before.starts)
+
+-- the places behind the rows that are taken over
+pub record AreEnds (before : Runs) (from to k : ℕ) : Type 0 where
+  pub low : slice_index before.starts from ≤ slice_index (ends before from (to - from)) k
+  pub few : slice_index (ends before from (to - from)) k ≤ slice_index before.starts from + 48 * (to - from)
+
+pub are_ends : (before : Runs) → AreSpans before → (from to k : ℕ) → from ≤ to → to ≤ 96 → k < to - from → AreEnds before from to k
+are_ends before are from to k order within less =
+    let row = from + 1 + k in
+    let t = are_taken before are from row to (omega arith) (omega arith) within in
+    let low = t.low in
+    let few = t.few in
+    let read : slice_index (ends before from (to - from)) k ≡ slice_index before.starts row =
+    get_or-take (to - from) (drop (from + 1) before.starts) k 0 less ∙ get_or-drop (from + 1) before.starts k 0 in
+    record { low = omega arith; few = omega arith }
+
+pub length-ends : (before : Runs) → AreSpans before → (from to : ℕ) → from ≤ to → to ≤ 96 → length (ends before from (to - from)) ≡ to - from
+length-ends before are from to order within =
+    let rows = are.rows in
+    let long = length-drop (from + 1) before.starts in
+    length-take-le (to - from) (drop (from + 1) before.starts) (omega arith)
+
+-- so many rows are taken over with their places moved
+pub IsCutTo-copied : (on : ℕ → ℕ → ℕ) (before : Runs) → AreSpans before → (starts : List ℕ) (old : List Span) (from to : ℕ) → to ≤ 96
+    → ((row column : ℕ) → from ≤ row → row < to → on row column ≡ held_at before row column)
+    → IsCutTo on starts old from → (d : ℕ) → from + d ≤ to
+    → IsCutTo on (starts ++ map (moved (slice_index before.starts from) (length old)) (ends before from d))
+    (take (taken_to before old from (from + d)) (taken before old from to)) (from + d)
+IsCutTo-copied on before are starts old from to within same cut zero fits =
+    let rest = take (slice_index before.starts to - slice_index before.starts from) (drop (slice_index before.starts from) before.spans) in
+    let none : taken_to before old from from ≡ length old = omega arith in
+    let whole : take (taken_to before old from from) (taken before old from to) ≡ old = take_at old rest (taken_to before old from from) (sym none) in
+    let here : from ≡ from + 0 = omega arith in
+    subst (λ (r : ℕ). IsCutTo on (starts ++ []) (take (taken_to before old from r) (taken before old from to)) r) here
+    (subst (λ (ns : List ℕ). IsCutTo on ns (take (taken_to before old from from) (taken before old from to)) from) (sym (append-nil starts))
+    (subst (λ (spans : List Span). IsCutTo on starts spans from) (sym whole) cut))
+IsCutTo-copied on before are starts old from to within same cut (suc d) fits =
+    let all = taken before old from to in
+    let row = from + d in
+    let f = moved (slice_index before.starts from) (length old) in
+    let behind = drop (from + 1) before.starts in
+    let before_it = IsCutTo-copied on before are starts old from to within same cut d (omega arith) in
+    let taken_row = IsCutTo-taken on before are (starts ++ map f (ends before from d)) old from to row (omega arith) (omega arith) within
+    (λ x. same row x (omega arith) (omega arith)) before_it in
+    let long = length-drop (from + 1) before.starts in
+    let rows = are.rows in
+    let place : from + 1 + d ≡ row + 1 = omega arith in
+    let one : d + 1 ≡ suc d = omega arith in
+    let next : row + 1 ≡ from + suc d = omega arith in
+    let read : get_or behind d 0 ≡ slice_index before.starts (row + 1) = get_or-drop (from + 1) before.starts d 0 ∙ ap (λ k. get_or before.starts k 0) place in
+    let more : map f (take (d + 1) behind) ≡ map f (take d behind) ++ f (get_or behind d 0) ∷ [] = map_more f behind d 0 (omega arith) in
+    let longer : (starts ++ map f (ends before from d)) ++ taken_to before old from (row + 1) ∷ [] ≡ starts ++ map f (ends before from (suc d)) =
+    append_assoc starts (map f (ends before from d)) (taken_to before old from (row + 1) ∷ [])
+    ∙ ap (λ (k : ℕ). starts ++ (map f (ends before from d) ++ f k ∷ [])) (sym read)
+    ∙ ap (λ (ns : List ℕ). starts ++ ns) (sym more)
+    ∙ ap (λ (n : ℕ). starts ++ map f (ends before from n)) one in
+    subst (λ (r : ℕ). IsCutTo on (starts ++ map f (ends before from (suc d))) (take (taken_to before old from r) all) r) next
+    (subst (λ (ns : List ℕ). IsCutTo on ns (take (taken_to before old from (row + 1)) all) (row + 1)) longer taken_row)

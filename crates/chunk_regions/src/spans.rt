@@ -1,8 +1,9 @@
 //! The spans of a chunk: passable cells of a row that lie side by side.
-ghost use Rattle.std.specs.Prelude.{ℕ, ◌≡◌, ◌≢◌, ◌<◌, ◌≤◌, ◌+◌, ◌-◌, ◌*◌, ◌/◌, ◌^◌, OnOk, IfOk, Some, slice_get, slice_index, length, take, drop};
+ghost use Rattle.std.specs.Prelude.{ℕ, ◌≡◌, ◌≢◌, ◌<◌, ◌≤◌, ◌+◌, ◌-◌, ◌*◌, ◌/◌, ◌^◌, OnOk, IfOk, Some, slice_get, slice_index, length, map, take, drop};
 ghost use Rattle.std.specs.Int.{bit_at};
 ghost use Rattle.nav_types.specs.declared.limits.TheConstants.{CHUNK_SIDE, CHUNK_CELLS};
 ghost use Rattle.chunk_regions.specs.inner.Spans.{Runs, AreRuns, AreSpans, IsCutTo, IsRowTo, bits_at, held_at, set_anew};
+ghost use Rattle.chunk_regions.specs.inner.Moving.{moved};
 
 use crate::bits::ChunkBits;
 use nav_types::NoMemory;
@@ -57,6 +58,15 @@ impl RowSpans {
         ensures within { result ≤ length self.now.spans }
     {
         self.starts[row as usize]
+    }
+
+    /// The places behind the last span of each row from one on to before another.
+    fn ends(&self, from: u16, to: u16) -> &[u16]
+        requires order { from ≤ to }
+        requires within { to ≤ CHUNK_SIDE }
+        ensures { result.now ≡ take (to - from) (drop (from + 1) self.now.starts) }
+    {
+        &self.starts[from as usize + 1..to as usize + 1]
     }
 
     /// The spans from a place on to before another.
@@ -156,6 +166,18 @@ pub fn cut(alloc: Global, bits: &ChunkBits) -> Result<RowSpans, NoMemory>
     Ok(RowSpans { starts, spans })
 }
 
+/// Counts places from another one on: what followed the place `first` follows the place `here`.
+#[inline(always)]
+fn move_places(places: &mut [u16], first: u16, here: u16)
+    requires low { (k : ℕ) → k < length places.old → first ≤ slice_index places.old k }
+    requires high { (k : ℕ) → k < length places.old → here + (slice_index places.old k - first) < 2 ^ 16 }
+    ensures { places.new ≡ map (moved first here) places.old }
+{
+    for place in places.iter_mut() {
+        *place = here + (*place - first);
+    }
+}
+
 /// Takes over the spans of the rows from one on to before another.
 #[inline(always)]
 fn copy_rows(
@@ -175,10 +197,9 @@ fn copy_rows(
     let first = before.start(from);
     let end = before.start(to);
     let here = spans.len() as u16;
-    for row in from..to {
-        let next = before.start(row + 1);
-        starts.push(here + (next - first))?;
-    }
+    let behind = starts.len();
+    starts.extend_from_slice(before.ends(from, to))?;
+    move_places(&mut starts[behind..], first, here);
     spans.extend_from_slice(before.between(first, end))?;
     Ok(())
 }
