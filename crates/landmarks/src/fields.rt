@@ -1,11 +1,11 @@
 //! Fields of distances from a landmark, in units.
-ghost use Rattle.std.specs.Prelude.{◌≡◌, ◌+◌, ◌<◌, ◌≤◌, ◌^◌, ℕ, length, slice_index, IfOk, OnOk};
+ghost use Rattle.std.specs.Prelude.{◌≡◌, ◌+◌, ◌<◌, ◌≤◌, ◌^◌, ℕ, length, slice_index, IfOk, OnOk, IsTrue};
 ghost use Rattle.landmarks.specs.inner.Fields.{Spreads, IsInner, HasRoom};
 
 use crate::marks::clear;
-use crate::queues::TableQueue;
+use crate::queues::{Reached, TableQueue};
 use crate::units::{DIAGONAL_UNITS, STRAIGHT_UNITS};
-use nav_types::NoMemory;
+use nav_types::{Dir, NoMemory};
 use std::alloc::Global;
 
 /// The most times that a cell's mark falls: once for each direction from which a step leads to it.
@@ -20,6 +20,89 @@ pub struct TableSpread {
     pub marks: Vec<u16>,
     straight: TableQueue,
     diagonal: TableQueue,
+}
+
+/// An eighth of a turn to the left: of N it is NW.
+#[inline(always)]
+fn left_of(dir: Dir) -> Dir {
+    match dir {
+        Dir::N => Dir::NW,
+        Dir::NW => Dir::W,
+        Dir::W => Dir::SW,
+        Dir::SW => Dir::S,
+        Dir::S => Dir::SE,
+        Dir::SE => Dir::E,
+        Dir::E => Dir::NE,
+        Dir::NE => Dir::N,
+    }
+}
+
+/// An eighth of a turn to the right: of N it is NE.
+#[inline(always)]
+fn right_of(dir: Dir) -> Dir {
+    match dir {
+        Dir::N => Dir::NE,
+        Dir::NE => Dir::E,
+        Dir::E => Dir::SE,
+        Dir::SE => Dir::S,
+        Dir::S => Dir::SW,
+        Dir::SW => Dir::W,
+        Dir::W => Dir::NW,
+        Dir::NW => Dir::N,
+    }
+}
+
+/// A side of a straight step: the directions an eighth, a quarter and three eighths of a turn from its own.
+#[derive(Clone, Copy)]
+struct Turn {
+    ahead: Dir,
+    aside: Dir,
+    behind: Dir,
+}
+
+/// The left side.
+#[inline(always)]
+fn turn_left(dir: Dir) -> Turn {
+    let ahead = left_of(dir);
+    let aside = left_of(ahead);
+    let behind = left_of(aside);
+    Turn {
+        ahead,
+        aside,
+        behind,
+    }
+}
+
+/// The right side.
+#[inline(always)]
+fn turn_right(dir: Dir) -> Turn {
+    let ahead = right_of(dir);
+    let aside = right_of(ahead);
+    let behind = right_of(aside);
+    Turn {
+        ahead,
+        aside,
+        behind,
+    }
+}
+
+/// The next place in a direction. `width` is that of a row of the table.
+#[inline(always)]
+fn beside(width: usize, at: usize, dir: Dir) -> usize
+    requires low { width + 1 ≤ at }
+    requires room { at + width + 1 < 2 ^ 63 }
+    ensures { result ≤ at + width + 1 }
+{
+    match dir {
+        Dir::N => at + width,
+        Dir::E => at + 1,
+        Dir::S => at - width,
+        Dir::W => at - 1,
+        Dir::NE => at + width + 1,
+        Dir::SE => at - width + 1,
+        Dir::SW => at - width - 1,
+        Dir::NW => at + width - 1,
+    }
 }
 
 impl TableSpread {
@@ -43,7 +126,7 @@ impl TableSpread {
 
     /// Lowers a mark to one that is less, as a straight step does.
     #[inline(always)]
-    fn lower_straight(&mut self, at: usize, mark: u16) -> Result<(), NoMemory>
+    fn lower_straight(&mut self, at: usize, mark: u16, arrived: Dir) -> Result<(), NoMemory>
         requires within { at < length self.old.marks.items }
         requires room { HasRoom self.old.marks.items }
         requires mark { 0 < mark }
@@ -51,105 +134,159 @@ impl TableSpread {
     {
         if mark < self.marks[at] {
             self.marks[at] = mark;
-            self.straight.push(at as u32)?;
+            let place = at as u32;
+            self.straight.push(Reached {
+                place,
+                mark,
+                arrived,
+            })?;
         }
         Ok(())
     }
 
-    /// Lowers a mark to one that is less, as a diagonal step does where both cells beside it are passable.
+    /// Lowers a mark to one that is less, as a diagonal step does.
     #[inline(always)]
-    fn lower_diagonal(
-        &mut self,
-        at: usize,
-        row: usize,
-        column: usize,
-        mark: u16,
-    ) -> Result<(), NoMemory>
+    fn lower_diagonal(&mut self, at: usize, mark: u16, arrived: Dir) -> Result<(), NoMemory>
         requires within { at < length self.old.marks.items }
-        requires row { row < length self.old.marks.items }
-        requires column { column < length self.old.marks.items }
         requires room { HasRoom self.old.marks.items }
         requires mark { 0 < mark }
         ensures { OnOk result (Spreads self.old.marks.items self.new.marks.items) }
     {
-        if mark < self.marks[at] && self.marks[row] != 0 && self.marks[column] != 0 {
+        if mark < self.marks[at] {
             self.marks[at] = mark;
-            self.diagonal.push(at as u32)?;
+            let place = at as u32;
+            self.diagonal.push(Reached {
+                place,
+                mark,
+                arrived,
+            })?;
         }
         Ok(())
-    }
-
-    /// The mark of a place, 0 past the last one.
-    #[inline(always)]
-    fn mark_at(&self, at: usize) -> u16 {
-        match self.marks.get(at) {
-            Some(mark) => *mark,
-            None => 0,
-        }
     }
 
     /// Takes out a place that waits: of the two heads the one with the smaller mark. None where none waits.
     #[inline(always)]
-    fn take(&mut self) -> Option<usize>
+    fn take(&mut self) -> Option<Reached>
         ensures { self.new.marks.items ≡ self.old.marks.items }
     {
-        let (is_straight, place) = match (self.straight.first(), self.diagonal.first()) {
-            (None, None) => return None,
-            (Some(straight), None) => (true, straight),
-            (None, Some(diagonal)) => (false, diagonal),
-            (Some(straight), Some(diagonal)) => {
-                if self.mark_at(straight) <= self.mark_at(diagonal) {
-                    (true, straight)
-                } else {
-                    (false, diagonal)
-                }
-            }
-        };
-        if is_straight {
-            self.straight.drop_first();
-        } else {
+        let Some(straight) = self.straight.first() else {
+            let diagonal = self.diagonal.first()?;
             self.diagonal.drop_first();
+            return Some(diagonal);
+        };
+        if let Some(diagonal) = self.diagonal.first() {
+            if diagonal.mark < straight.mark {
+                self.diagonal.drop_first();
+                return Some(diagonal);
+            }
         }
-        Some(place)
+        self.straight.drop_first();
+        Some(straight)
     }
 
-    /// Lowers the marks round a place by the four straight steps.
-    fn relax_straight(&mut self, width: usize, at: usize, mark: u16) -> Result<(), NoMemory>
-        requires inner { IsInner width at self.old.marks.items }
-        requires room { HasRoom self.old.marks.items }
-        requires mark { 0 < mark }
-        ensures { OnOk result (Spreads self.old.marks.items self.new.marks.items) }
-    {
-        self.lower_straight(at + width, mark)?;
-        self.lower_straight(at + 1, mark)?;
-        self.lower_straight(at - width, mark)?;
-        self.lower_straight(at - 1, mark)
-    }
-
-    /// Lowers the marks round a place by the four diagonal steps.
-    fn relax_diagonal(&mut self, width: usize, at: usize, mark: u16) -> Result<(), NoMemory>
-        requires inner { IsInner width at self.old.marks.items }
-        requires room { HasRoom self.old.marks.items }
-        requires mark { 0 < mark }
-        ensures { OnOk result (Spreads self.old.marks.items self.new.marks.items) }
-    {
-        let north = at + width;
-        let south = at - width;
-        self.lower_diagonal(north + 1, at + 1, north, mark)?;
-        self.lower_diagonal(south + 1, at + 1, south, mark)?;
-        self.lower_diagonal(south - 1, at - 1, south, mark)?;
-        self.lower_diagonal(north - 1, at - 1, north, mark)
-    }
-
-    /// Lowers the marks round a place by all steps from it.
-    fn relax(&mut self, width: usize, at: usize) -> Result<(), NoMemory>
+    /// Lowers the mark of the next place in the direction, where a step leads there from the place.
+    #[inline(always)]
+    fn step(&mut self, width: usize, at: usize, dir: Dir) -> Result<(), NoMemory>
         requires inner { IsInner width at self.old.marks.items }
         requires room { HasRoom self.old.marks.items }
         ensures { OnOk result (Spreads self.old.marks.items self.new.marks.items) }
     {
         let mark = self.marks[at];
-        self.relax_straight(width, at, mark.saturating_add(STRAIGHT_UNITS))?;
-        self.relax_diagonal(width, at, mark.saturating_add(DIAGONAL_UNITS))
+        let to = beside(width, at, dir);
+        if dir.is_straight() {
+            return self.lower_straight(to, mark.saturating_add(STRAIGHT_UNITS), dir);
+        }
+        let (row, column) = (
+            beside(width, at, left_of(dir)),
+            beside(width, at, right_of(dir)),
+        );
+        if self.marks[row] == 0 || self.marks[column] == 0 {
+            return Ok(());
+        }
+        self.lower_diagonal(to, mark.saturating_add(DIAGONAL_UNITS), dir)
+    }
+
+    /// Goes on to a side, where a wall on that side of the place before forces it.
+    #[inline(always)]
+    fn turn(&mut self, width: usize, at: usize, turn: Turn) -> Result<(), NoMemory>
+        requires inner { IsInner width at self.old.marks.items }
+        requires room { HasRoom self.old.marks.items }
+        ensures { OnOk result (Spreads self.old.marks.items self.new.marks.items) }
+    {
+        if self.marks[beside(width, at, turn.behind)] != 0 {
+            return Ok(());
+        }
+        self.step(width, at, turn.aside)?;
+        self.step(width, at, turn.ahead)
+    }
+
+    /// Goes on from a place that a straight step reached.
+    #[inline(always)]
+    fn after_straight(&mut self, width: usize, at: usize, arrived: Dir) -> Result<(), NoMemory>
+        requires inner { IsInner width at self.old.marks.items }
+        requires room { HasRoom self.old.marks.items }
+        ensures { OnOk result (Spreads self.old.marks.items self.new.marks.items) }
+    {
+        self.step(width, at, arrived)?;
+        self.turn(width, at, turn_left(arrived))?;
+        self.turn(width, at, turn_right(arrived))
+    }
+
+    /// Goes on from a place that a diagonal step reached.
+    #[inline(always)]
+    fn after_diagonal(&mut self, width: usize, at: usize, arrived: Dir) -> Result<(), NoMemory>
+        requires inner { IsInner width at self.old.marks.items }
+        requires room { HasRoom self.old.marks.items }
+        ensures { OnOk result (Spreads self.old.marks.items self.new.marks.items) }
+    {
+        self.step(width, at, left_of(arrived))?;
+        self.step(width, at, right_of(arrived))?;
+        self.step(width, at, arrived)
+    }
+
+    /// Goes on from a place that was reached. Steps by which no place is reached at less cost are left out, as by the pruning of
+    /// a jump search.
+    #[inline(always)]
+    fn relax(&mut self, width: usize, at: usize, arrived: Dir) -> Result<(), NoMemory>
+        requires inner { IsInner width at self.old.marks.items }
+        requires room { HasRoom self.old.marks.items }
+        ensures { OnOk result (Spreads self.old.marks.items self.new.marks.items) }
+    {
+        match arrived {
+            Dir::N => self.after_straight(width, at, Dir::N),
+            Dir::E => self.after_straight(width, at, Dir::E),
+            Dir::S => self.after_straight(width, at, Dir::S),
+            Dir::W => self.after_straight(width, at, Dir::W),
+            Dir::NE => self.after_diagonal(width, at, Dir::NE),
+            Dir::SE => self.after_diagonal(width, at, Dir::SE),
+            Dir::SW => self.after_diagonal(width, at, Dir::SW),
+            Dir::NW => self.after_diagonal(width, at, Dir::NW),
+        }
+    }
+
+    /// Whether the place has one on each side.
+    #[inline(always)]
+    fn is_inner(&self, width: usize, at: usize) -> bool
+        requires wide { width + 1 < length self.now.marks.items }
+        ensures { IsTrue result → IsInner width at self.now.marks.items }
+    {
+        at > width && at < self.marks.len() - width - 1
+    }
+
+    /// Lowers the marks round the place where a spread begins, by all steps from it.
+    fn begin(&mut self, width: usize, from: usize) -> Result<(), NoMemory>
+        requires wide { width + 1 < length self.old.marks.items }
+        requires room { HasRoom self.old.marks.items }
+        ensures { OnOk result (Spreads self.old.marks.items self.new.marks.items) }
+    {
+        if !self.is_inner(width, from) || self.marks[from] == 0 {
+            return Ok(());
+        }
+        self.marks[from] = 1;
+        self.after_diagonal(width, from, Dir::NE)?;
+        self.after_diagonal(width, from, Dir::SW)?;
+        self.step(width, from, Dir::SE)?;
+        self.step(width, from, Dir::NW)
     }
 
     /// Spreads the marks from a place until none waits, and gives the place that was reached last. `width` is that of a
@@ -161,14 +298,16 @@ impl TableSpread {
         ensures spreads { OnOk result (Spreads self.old.marks.items self.new.marks.items) }
         ensures last { IfOk result (λ last. last < length self.old.marks.items) }
     {
-        self.lower_straight(from, 1)?;
+        let most = MOST_FALLS * self.marks.len();
+        self.begin(width, from)?;
         let mut last = from;
-        for _ in 0..MOST_FALLS * self.marks.len() {
-            let Some(at) = self.take() else {
+        for _ in 0..most {
+            let Some(reached) = self.take() else {
                 return Ok(last);
             };
-            if at > width && at < self.marks.len() - width - 1 {
-                self.relax(width, at)?;
+            let at = reached.place as usize;
+            if self.is_inner(width, at) {
+                self.relax(width, at, reached.arrived)?;
                 last = at;
             }
         }

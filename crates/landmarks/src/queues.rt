@@ -1,14 +1,22 @@
 //! A queue of places.
 ghost use Rattle.std.specs.Prelude.{◌≡◌};
 
-use nav_types::NoMemory;
+use nav_types::{Dir, NoMemory};
 use std::alloc::Global;
+
+/// A place that a step reached, with the mark that it got and the step's direction.
+#[derive(Clone, Copy)]
+pub struct Reached {
+    pub place: u32,
+    pub mark: u16,
+    pub arrived: Dir,
+}
 
 /// Places that wait, the first in the first out. What was taken out keeps its memory, so that all is written and read in
 /// order.
 #[derive(Drop)]
 pub struct TableQueue {
-    places: Vec<u32>,
+    places: Vec<Reached>,
     head: usize,
 }
 
@@ -23,18 +31,15 @@ impl TableQueue {
 
     /// Puts a place behind the others.
     #[inline(always)]
-    pub fn push(&mut self, place: u32) -> Result<(), NoMemory> {
-        self.places.push(place)?;
+    pub fn push(&mut self, reached: Reached) -> Result<(), NoMemory> {
+        self.places.push(reached)?;
         Ok(())
     }
 
     /// The place that comes first. None where none waits.
     #[inline(always)]
-    pub fn first(&self) -> Option<usize> {
-        match self.places.get(self.head) {
-            Some(place) => Some(*place as usize),
-            None => None,
-        }
+    pub fn first(&self) -> Option<Reached> {
+        self.places.get(self.head).copied()
     }
 
     /// Takes out the place that comes first.

@@ -1,9 +1,0 @@
-use Rattle.std.proofs.lemmas.Result.{on_ok_weaker}
-use Rattle.landmarks.proofs.Marking.{Spreads-four}
-use Rattle.landmarks.proofs.fields.TableSpread.relax_straight.Goals as goal
-
-pub returns : goal.returns
-returns c = on_ok_weaker c.lower_straight-4.result
-    (λ last. Spreads-four c.args.self.now.marks.items c.lower_straight.new.self.marks.items c.lower_straight-2.new.self.marks.items c.lower_straight-3.new.self.marks.items c.lower_straight-4.new.self.marks.items
-    c.in_ok-lower_straight.ensures c.in_ok-lower_straight-2.ensures c.in_ok-lower_straight-3.ensures last)
-    c.lower_straight-4.ensures
