@@ -8,8 +8,8 @@ ghost use Rattle.open_heap.specs.inner.Buckets.{IsChain, AreGathered};
 use crate::entries::Entry;
 use nav_types::NoMemory;
 
-/// How wide the estimates of a bucket lie: half of what a straight step costs.
-pub const WIDTH: u64 = 32768;
+/// How wide the estimates of a bucket lie: an eighth of what a straight step costs.
+pub const WIDTH: u64 = 8192;
 
 /// For how many further buckets there are places where a bucket lacks one.
 const MORE: usize = 256;
@@ -70,11 +70,17 @@ pub fn place_of(entries: &[Entry], estimate: u64) -> usize
     ensures behind { (place : ℕ) (d : Entry) → result ≤ place → place < length entries.now
         → (slice_index_or entries.now place d).estimate ≤ estimate }
 {
-    let mut place = entries.len();
-    'walk: while place > 0 && entries[place - 1].estimate < estimate {
-        place -= 1;
+    let mut least = 0;
+    let mut most = entries.len();
+    'halve: while least < most {
+        let middle = least + (most - least) / 2;
+        if entries[middle].estimate < estimate {
+            most = middle;
+        } else {
+            least = middle + 1;
+        }
     }
-    place
+    most
 }
 
 /// Appends the entry before the number `end`, and those that are linked from there.
