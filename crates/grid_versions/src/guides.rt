@@ -1,14 +1,14 @@
 //! Tables of landmarks that the searches of a class have earned.
 //!
 //! ```text
-//!    searches note what they open --> a class has earned tables --> the next version has three more
+//!    searches note what they open --> a class has earned tables --> the next version has four more
 //! ```
 //!
-//! To make three tables costs about what it costs to open one jump state for each third cell of the map. Where the searches
-//! of a class have opened as many since its last tables, the next version gets three more, so that a match pays for tables at
-//! most about what it has paid for searches. One at a time would come as dear and tell less till all are there. Tables are
-//! those of the map where nothing stands. They serve each of its versions, since obstructions take steps away and give none,
-//! and no edit touches them.
+//! To make four tables costs about what it costs to open one jump state for each fourth cell of the map. Where the searches
+//! of a class have opened one for each seventh since its last tables, the next version gets four more, so that a match pays
+//! for tables at most about one and a half times what it has paid for searches. One at a time would come as dear and tell
+//! less till all are there. Tables are those of the map where nothing stands. They serve each of its versions, since
+//! obstructions take steps away and give none, and no edit touches them.
 ghost use Rattle.std.specs.Prelude.{ℕ, ◌≡◌, ◌<◌, ◌≤◌, ◌^◌, length, slice_get, replicate, None, Some, IfOk, IfSome};
 ghost use Rattle.std.specs.FinMap as fin_map;
 ghost use Rattle.nav_types.specs.Cells.{IsInside};
@@ -33,10 +33,10 @@ const CELL_BYTES: usize = 2 * MAX_TABLES;
 const LONG_SIDE: u16 = 1_024;
 
 /// How many tables are made for one price.
-const TABLES_AT_ONCE: usize = 3;
+const TABLES_AT_ONCE: usize = 4;
 
 /// For how many cells of the map one jump state has to be opened before tables are made.
-const CELLS_A_STATE: u64 = 3;
+const CELLS_A_STATE: u64 = 7;
 
 /// What the searches of a class go by, and what they have cost since that was made. Searches on all versions that share
 /// this are noted here. Contracts see the tables alone.
