@@ -124,3 +124,45 @@ fn a_long_chain_is_one_area(rt: HostRuntime) -> Result<(), Fail> {
     assert!(rt; table.count() == 1);
     Ok(())
 }
+
+/// The links of each 1,000th region in one chain, from the end, and of each but the first with the region so many places on.
+fn sparse(alloc: Global, beside: u32) -> Result<Vec<(RegionId, RegionId)>, NoMemory> {
+    let mut pairs = Vec::with_capacity(alloc, 198)?;
+    for k in 1..100 {
+        let place = 100_000 - 1_000 * k;
+        pairs.push((at(place), at(place - 1_000)))?;
+        pairs.push((at(place), at(place + beside)))?;
+    }
+    Ok(pairs)
+}
+
+/// Whether the tables of some links and of the same with a link of each region to itself have the same areas.
+fn same_with_more(alloc: Global, pairs: &[(RegionId, RegionId)]) -> Result<bool, Fail> {
+    let few = table_of(alloc, &[10_000; 10], pairs)?;
+    let mut more = Vec::with_capacity(alloc, 100_000)?;
+    more.extend_from_slice(pairs)?;
+    for k in 0..100_000 {
+        more.push((at(k), at(k)))?;
+    }
+    let many = table_of(alloc, &[10_000; 10], &more)?;
+    for k in 0..100_000 {
+        if few.area(at(k)) != many.area(at(k)) {
+            return Ok(false);
+        }
+    }
+    Ok(few.count() == many.count())
+}
+
+#[test]
+fn regions_without_links_are_areas_of_their_own(rt: HostRuntime) -> Result<(), Fail> {
+    for beside in [1, 63, 64, 999] {
+        let pairs = sparse(rt.alloc(), beside)?;
+        let table = table_of(rt.alloc(), &[10_000; 10], &pairs)?;
+        assert!(rt; table.count() == 99_802);
+        assert!(rt; table.area(at(1_000 + beside)) == 1);
+        let last = if beside == 999 { 1 } else { 99_802 };
+        assert!(rt; table.area(at(99_999)) == last);
+        assert!(rt; same_with_more(rt.alloc(), &pairs) == Ok(true));
+    }
+    Ok(())
+}

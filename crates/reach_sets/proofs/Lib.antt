@@ -5,3 +5,7 @@ pub mod LinkLemmas
 pub mod NumberLemmas
 pub mod AreaLemmas
 pub mod UniqueLemmas
+pub mod MarkLemmas
+pub mod SpreadLemmas
+pub mod LinkedLemmas
+pub mod EndLemmas

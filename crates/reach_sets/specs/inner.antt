@@ -1,2 +1,5 @@
 pub mod RowStarts
 pub mod Forests
+pub mod Marks
+pub mod Linked
+pub mod Holding

@@ -28,7 +28,7 @@ fn root_of(parents: &mut [u32], place: u32) -> u32
 }
 
 /// Makes one tree of the trees of two places. The earlier root stays the root.
-fn join(parents: &mut [u32], a: u32, b: u32)
+pub fn join(parents: &mut [u32], a: u32, b: u32)
     requires forest { IsForest parents.old }
     requires a_inside { a < length parents.old }
     requires b_inside { b < length parents.old }
@@ -45,7 +45,7 @@ fn join(parents: &mut [u32], a: u32, b: u32)
 }
 
 /// Each place is a tree of its own.
-fn apart(alloc: Global, count: u32) -> Result<Vec<u32>, NoMemory>
+pub fn apart(alloc: Global, count: u32) -> Result<Vec<u32>, NoMemory>
     ensures { IfOk result (λ parents. (length parents.items ≡ count)
         × ((k : ℕ) → k < count → slice_index parents.items k ≡ k)) }
 {

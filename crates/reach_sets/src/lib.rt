@@ -6,6 +6,8 @@
 #![tactic(auto)]
 
 mod forests;
+mod linked;
+mod marks;
 mod offsets;
 mod regions;
 mod tables;

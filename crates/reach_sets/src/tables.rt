@@ -5,11 +5,15 @@ ghost use Rattle.reach_sets.specs.RegionOrder.{IsRegion};
 ghost use Rattle.reach_sets.specs.AreaNumbers.{AreaNumbers, AreAreas, area_of};
 
 use crate::forests::{forest_of, number_trees};
+use crate::linked::{LinkedAreas, linked_areas};
 use crate::offsets::Offsets;
 use crate::regions::{Links, RegionId};
 use nav_types::NoMemory;
 use std::alloc::Global;
 use std::marker::Model;
+
+/// Where there are more regions than this for each link, only those with links are written down.
+const REGIONS_A_LINK: u32 = 8;
 
 /// The areas of all regions. Two regions are of one area exactly where a chain of links joins them.
 /// Contracts see the number of regions of each chunk, the area of each region in the order of regions,
@@ -17,19 +21,27 @@ use std::marker::Model;
 #[derive(Drop)]
 pub struct AreaTable {
     offsets: Offsets,
-    areas: Vec<u32>,
+    areas: Areas,
     count: u32,
+}
+
+/// How the areas are held: each region's, or, where few regions have links, of these alone.
+#[derive(Drop)]
+enum Areas {
+    Each(Vec<u32>),
+    Linked(LinkedAreas),
 }
 
 impl Model for AreaTable {
     ghost use Rattle.std.specs.Prelude.{◌≡◌, length, sum};
     ghost use Rattle.reach_sets.specs.AreaNumbers.{AreaNumbers};
+    ghost use Rattle.reach_sets.specs.inner.Holding.{areas_held};
 
     ghost Value = { AreaNumbers };
 
-    ghost view = { λ t. record { regions = t.offsets; areas = t.areas.items; count = t.count } };
+    ghost view = { λ t. record { regions = t.offsets; areas = areas_held t.areas; count = t.count } };
 
-    ghost invariant = { λ t. length t.areas.items ≡ sum t.offsets };
+    ghost invariant = { λ t. length (areas_held t.areas) ≡ sum t.offsets };
 }
 
 impl AreaTable {
@@ -46,11 +58,19 @@ impl AreaTable {
         ensures areas { IfOk result (λ table. AreAreas regions.now links.now table) }
     {
         let offsets = Offsets::new(alloc, regions)?;
+        if has_few(&offsets, links.as_slice()) {
+            let (areas, count) = linked_areas(alloc, &offsets, links.as_slice())?;
+            return Ok(AreaTable {
+                offsets,
+                areas: Areas::Linked(areas),
+                count,
+            });
+        }
         let mut areas = forest_of(alloc, &offsets, links.as_slice())?;
         let count = number_trees(&mut areas);
         Ok(AreaTable {
             offsets,
-            areas,
+            areas: Areas::Each(areas),
             count,
         })
     }
@@ -65,7 +85,11 @@ impl AreaTable {
         if region.region == 0 {
             return 0;
         }
-        self.areas[self.offsets.place_of(region) as usize]
+        let place = self.offsets.place_of(region);
+        match &self.areas {
+            Areas::Each(areas) => areas[place as usize],
+            Areas::Linked(areas) => areas.at(place),
+        }
     }
 
     /// How many areas there are.
@@ -87,6 +111,11 @@ impl AreaTable {
         let area = self.area(a);
         area != 0 && area == self.area(b)
     }
+}
+
+/// Whether the links are few beside the regions, so that only the regions that have some need to be written down.
+fn has_few(offsets: &Offsets, links: &[(RegionId, RegionId)]) -> bool {
+    links.len() < (offsets.total() / REGIONS_A_LINK) as usize
 }
 
 /// Regions and links have one table of areas.
