@@ -162,7 +162,7 @@ fn regions_without_links_are_areas_of_their_own(rt: HostRuntime) -> Result<(), F
         assert!(rt; table.area(at(1_000 + beside)) == 1);
         let last = if beside == 999 { 1 } else { 99_802 };
         assert!(rt; table.area(at(99_999)) == last);
-        assert!(rt; same_with_more(rt.alloc(), &pairs) == Ok(true));
+        assert!(rt; same_with_more(rt.alloc(), &pairs)?);
     }
     Ok(())
 }
