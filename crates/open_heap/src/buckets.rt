@@ -8,8 +8,8 @@ ghost use Rattle.open_heap.specs.inner.Buckets.{IsChain, AreGathered};
 use crate::entries::Entry;
 use nav_types::NoMemory;
 
-/// How wide the estimates of a bucket lie: an eighth of what a straight step costs.
-pub const WIDTH: u64 = 8192;
+/// How wide the estimates of a bucket lie: a quarter of what a straight step costs.
+pub const WIDTH: u64 = 16384;
 
 /// For how many further buckets there are places where a bucket lacks one.
 const MORE: usize = 256;

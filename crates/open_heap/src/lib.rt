@@ -1,7 +1,7 @@
 //! The open list of a search: keys with estimates, of which one of the least estimate is taken out.
 //!
 //! ```text
-//!    (estimate - start) / 2^13:   0   1   2   3   ..        a bucket for each part of the estimates;
+//!    (estimate - start) / 2^14:   0   1   2   3   ..        a bucket for each part of the estimates;
 //!                                     ^-- current            only the current one is sorted
 //! ```
 //!

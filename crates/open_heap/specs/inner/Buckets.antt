@@ -31,7 +31,7 @@ IsLive table entry = estimate_at table entry.key ≡ Some entry.estimate
 
 -- the bucket of an estimate, where buckets are counted from the start
 abbrev pub bucket_of : ℕ → ℕ → ℕ
-bucket_of start estimate = (estimate - start) / 8192
+bucket_of start estimate = (estimate - start) / 16384
 
 -- what waits, as an entry
 abbrev pub entry_of : Waiting → Entry
