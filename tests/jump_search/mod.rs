@@ -122,7 +122,23 @@ fn answers_in_pool(
         aim,
     };
     let found = question.find(pool, alloc)?;
-    Ok(is_found(search, &found))
+    Ok(is_found(search, &found)
+        && answers_within(alloc, pool, &question, search, found.cost.0)?)
+}
+
+/// Whether a find within a greatest cost gives the answer at its cost, and none at one less.
+fn answers_within<Q: JumpSearch>(
+    alloc: Global,
+    pool: &mut Pool,
+    question: &Q,
+    search: &Search<'_>,
+    cost: u64,
+) -> Result<bool, NoMemory> {
+    let Some(found) = question.find_within(pool, alloc, cost)? else {
+        return Ok(false);
+    };
+    let is_short = cost == 0 || question.find_within(pool, alloc, cost - 1)?.is_none();
+    Ok(is_found(search, &found) && is_short)
 }
 
 /// Whether the search over the cells answers as it should, and so many jump states are opened, where they are counted in a

@@ -105,7 +105,7 @@ counts_of all passes hit start ahead rect end bound nodes able is same opened co
 -- what a search opens is no more than the opened number
 
 -- estimates don't come past the cost of an answer
-halted_below : (all : Bool) (passes hit : Cell → Bool) (start : Cell) (ahead : Cell → ℕ) (floor : ℕ) (nodes : List Node)
+pub halted_below : (all : Bool) (passes hit : Cell → Bool) (start : Cell) (ahead : Cell → ℕ) (floor : ℕ) (nodes : List Node)
     → IsHalted all passes hit start ahead floor nodes → IsTrue (passes start) → IsConsistent passes hit ahead
     → (target : Cell) (dirs : List Dir) → IsTrue (hit target) → IsWalk passes start dirs target → floor ≤ walk_cost dirs
 halted_below all passes hit start ahead floor nodes halted passing consistent target dirs is_hit walk =
@@ -127,7 +127,7 @@ abbrev IsAbove : (Cell → Bool) → Rect → (Cell → ℕ) → Type 0
 IsAbove passes rect ahead = (cell : Cell) → IsTrue (passes cell) → octile_to rect cell ≤ ahead cell
 
 -- so nodes that are opened within a bound by the estimate are so by the octile distance
-few_within : (passes hit : Cell → Bool) (start : Cell) (ahead : Cell → ℕ) (rect : Rect) (bound most : ℕ)
+pub few_within : (passes hit : Cell → Bool) (start : Cell) (ahead : Cell → ℕ) (rect : Rect) (bound most : ℕ)
     (nodes : List Node)
     → IsTrue (passes start) → IsAbove passes rect ahead → AreMet passes hit start nodes
     → ((place : ℕ) (node : Node) → slice_get nodes place ≡ Some node → IsTrue node.opened

@@ -14,7 +14,7 @@ use Rattle.jump_search.proofs.Listing.{one_item}
 use Rattle.jump_search.proofs.Queueing.{get_cases}
 
 -- nodes that are not opened wait, or are dominated by another of their cell
-waits_or_dearer : (all : Bool) (ahead : Cell → ℕ) (floor : ℕ) (nodes : List Node) (queue : Queue)
+pub waits_or_dearer : (all : Bool) (ahead : Cell → ℕ) (floor : ℕ) (nodes : List Node) (queue : Queue)
     → IsQueued all ahead floor nodes queue
     → (number : ℕ) (node : Node) → slice_get nodes number ≡ Some node → IsFalse node.opened
     → ((value : ℕ) × ((map.get queue number ≡ Some value)

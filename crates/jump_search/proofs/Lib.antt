@@ -16,6 +16,7 @@ pub mod Answering
 pub mod OneNumber
 pub mod Framing
 pub mod WaysOut
+pub mod Within
 pub mod Roots
 pub mod Rims
 pub mod Sides

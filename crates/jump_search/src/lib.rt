@@ -20,6 +20,7 @@ mod frontier;
 mod known_successors;
 mod laws;
 mod looks;
+mod near_searches;
 mod nodes;
 mod octile;
 mod pages;

@@ -13,6 +13,7 @@ use crate::bounded_aims::BoundedAim;
 use crate::estimates::{Estimate, TargetEstimate};
 use crate::frontier::Frontier;
 use crate::looks::looked;
+use crate::near_searches::{found_within, octile_of, uncounted_within};
 use crate::nodes::Nodes;
 use crate::problems::{Guided, Problem, Question};
 use crate::searching::{Best, searched};
@@ -31,8 +32,8 @@ const SMALL: usize = 262_144;
 /// take again. What a search answers does not depend on those before it, also where memory ran out in one of them.
 #[derive(Drop)]
 pub struct Pool {
-    frontier: Frontier,
-    opened: u64,
+    pub(crate) frontier: Frontier,
+    pub(crate) opened: u64,
 }
 
 impl Pool {
@@ -65,7 +66,12 @@ pub struct Traced {
 }
 
 /// What a search that has ended with a best hit has found, traced back over its nodes.
-fn found(alloc: Global, nodes: &Nodes, start: Cell, best: Best) -> Result<Found, NoMemory>
+pub(crate) fn found(
+    alloc: Global,
+    nodes: &Nodes,
+    start: Cell,
+    best: Best,
+) -> Result<Found, NoMemory>
     requires { (all : Bool) × ((passes : Cell → Bool) × ((hit : Cell → Bool) × ((ahead : Cell → ℕ)
         × IsTraceable all passes hit start ahead best.cell best.cost nodes.now))) }
     ensures answer { IfOk result (λ found. (all : Bool) (passes hit : Cell → Bool) (ahead : Cell → ℕ)
@@ -82,13 +88,17 @@ fn found(alloc: Global, nodes: &Nodes, start: Cell, best: Best) -> Result<Found,
 }
 
 /// What a find answers at once: where the start is hit, the start itself, for nothing.
-fn found_at_start<R: Runs, A: Aim>(alloc: Global, question: &Question<'_, R, A>) -> Option<Found>
+pub(crate) fn found_at_start<R: Runs, A: Aim>(
+    alloc: Global,
+    question: &Question<'_, R, A>,
+) -> Option<Found>
     requires { CanSearch (R.passes question.now.runs.now question.now.class)
         (A.hit question.now.aim.now (R.extent question.now.runs.now))
         (A.sound question.now.aim.now (R.extent question.now.runs.now)) question.now.start }
-    ensures { IfSome result (λ found. IsAnswer (R.passes question.now.runs.now question.now.class)
+    ensures answer { IfSome result (λ found. IsAnswer (R.passes question.now.runs.now question.now.class)
         question.now.start (A.hit question.now.aim.now (R.extent question.now.runs.now))
         found.end found.cost.0 found.waypoints) }
+    ensures free { IfSome result (λ found. found.cost.0 ≡ 0) }
 {
     let start = question.start;
     if !question.aim.hits(question.runs.size(), start) {
@@ -258,6 +268,7 @@ fn uncounted_by<R: Runs, A: Aim, E: Estimate, L: Ledger>(
 pub trait JumpSearch {
     ghost use Rattle.std.specs.Prelude.{IfOk};
     ghost use Rattle.jump_search.specs.Questions.{Asked, CountsFor, Finds, IsAnswerTo, Traces};
+    ghost use Rattle.jump_search.specs.Within.{FindsWithin, IsAnswerWithin};
 
     ghost can_search: { Self → Type 0 };
 
@@ -291,6 +302,21 @@ pub trait JumpSearch {
         requires { can_search self.now }
         ensures { Finds (asked self.now) ticks.old ticks.new result };
 
+    /// The answer alone, where it costs at most `most`, and None exactly where it costs more.
+    ///
+    /// It opens only jump states whose cost and estimate are together at most `most`. Each that it opens is one tick, so there
+    /// are no more than have a least pruned cost that, with the octile distance to the rectangle of the aim, is at most `most`.
+    /// Nor are there more than the opened number.
+    fn jump_find_within<L: Ledger>(
+        &self,
+        pool: &mut Pool,
+        alloc: Global,
+        most: u64,
+        ticks: &mut Ticks<L>,
+    ) -> Result<Option<Found>, NoMemory>
+        requires { can_search self.now }
+        ensures { FindsWithin (asked self.now) most ticks.old ticks.new result };
+
     /// As [`JumpSearch::jump_search_in`], for a caller who counts no ticks.
     fn trace(&self, pool: &mut Pool, alloc: Global) -> Result<Traced, NoMemory>
         requires { can_search self.now }
@@ -301,6 +327,16 @@ pub trait JumpSearch {
     fn find(&self, pool: &mut Pool, alloc: Global) -> Result<Found, NoMemory>
         requires { can_search self.now }
         ensures { IfOk result (IsAnswerTo (asked self.now)) };
+
+    /// As [`JumpSearch::jump_find_within`], for a caller who counts no ticks.
+    fn find_within(
+        &self,
+        pool: &mut Pool,
+        alloc: Global,
+        most: u64,
+    ) -> Result<Option<Found>, NoMemory>
+        requires { can_search self.now }
+        ensures { IfOk result (IsAnswerWithin (asked self.now) most) };
 }
 
 impl<'q, R: Runs, A: Aim> JumpSearch for Question<'q, R, A> {
@@ -343,6 +379,16 @@ impl<'q, R: Runs, A: Aim> JumpSearch for Question<'q, R, A> {
         Ok(traced.found)
     }
 
+    fn jump_find_within<L: Ledger>(
+        &self,
+        pool: &mut Pool,
+        alloc: Global,
+        most: u64,
+        ticks: &mut Ticks<L>,
+    ) -> Result<Option<Found>, NoMemory> {
+        found_within(pool, alloc, self, &octile_of(self), most, ticks)
+    }
+
     fn trace(&self, pool: &mut Pool, alloc: Global) -> Result<Traced, NoMemory> {
         uncounted::<R, A, Brand>(&mut pool.frontier, alloc, self, true, Blank::new(1))
     }
@@ -361,6 +407,23 @@ impl<'q, R: Runs, A: Aim> JumpSearch for Question<'q, R, A> {
         )?;
         pool.opened = traced.opened;
         Ok(traced.found)
+    }
+
+    fn find_within(
+        &self,
+        pool: &mut Pool,
+        alloc: Global,
+        most: u64,
+    ) -> Result<Option<Found>, NoMemory> {
+        let ahead = octile_of(self);
+        uncounted_within::<R, A, TargetEstimate<'_>, Brand>(
+            pool,
+            alloc,
+            self,
+            &ahead,
+            most,
+            Blank::new(1),
+        )
     }
 }
 
@@ -411,6 +474,17 @@ impl<'q, R: Runs, A: Aim, E: Estimate> JumpSearch for Guided<'q, R, A, E> {
         Ok(traced.found)
     }
 
+    fn jump_find_within<L: Ledger>(
+        &self,
+        pool: &mut Pool,
+        alloc: Global,
+        most: u64,
+        ticks: &mut Ticks<L>,
+    ) -> Result<Option<Found>, NoMemory> {
+        let Guided { question, ahead } = self;
+        found_within(pool, alloc, question, *ahead, most, ticks)
+    }
+
     fn trace(&self, pool: &mut Pool, alloc: Global) -> Result<Traced, NoMemory> {
         self.question.trace(pool, alloc)
     }
@@ -428,6 +502,16 @@ impl<'q, R: Runs, A: Aim, E: Estimate> JumpSearch for Guided<'q, R, A, E> {
         )?;
         pool.opened = traced.opened;
         Ok(traced.found)
+    }
+
+    fn find_within(
+        &self,
+        pool: &mut Pool,
+        alloc: Global,
+        most: u64,
+    ) -> Result<Option<Found>, NoMemory> {
+        let Guided { question, ahead } = self;
+        uncounted_within::<R, A, E, Brand>(pool, alloc, question, *ahead, most, Blank::new(1))
     }
 }
 

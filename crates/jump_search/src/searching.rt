@@ -81,7 +81,11 @@ fn best_with<R: Runs, A: Aim>(runs: &R, aim: &A, best: Option<Best>, node: &Node
 
 impl Search {
     /// A search over no node but that of the start, which waits.
-    fn new<E: Estimate>(frontier: &mut Frontier, ahead: &E, start: Cell) -> Result<Search, NoMemory>
+    pub(crate) fn new<E: Estimate>(
+        frontier: &mut Frontier,
+        ahead: &E,
+        start: Cell,
+    ) -> Result<Search, NoMemory>
         ensures underway { IfOk result (λ search. (all : Bool) (passes hit : Cell → Bool)
             → IsUnderway all passes hit start (E.least ahead.now) 0 frontier.new.nodes frontier.new.waiting search.best) }
         ensures opened { IfOk result (λ search. search.opened ≡ opened_count frontier.new.nodes) }
@@ -107,7 +111,7 @@ impl Search {
 
     /// Takes the next entry from the open list, where its estimate is not past the best hit's cost. None where the
     /// search has ended.
-    fn next(&self, frontier: &mut Frontier) -> Option<Entry>
+    pub(crate) fn next(&self, frontier: &mut Frontier) -> Option<Entry>
         ensures nodes { frontier.new.nodes ≡ frontier.old.nodes }
         ensures least { IfSome result (IsLeast frontier.old.waiting) }
         ensures rest { IfSome result (λ entry. frontier.new.waiting ≡ map.remove frontier.old.waiting entry.key) }
@@ -125,7 +129,7 @@ impl Search {
     }
 
     /// Opens the node of an entry that was taken from the open list, with one tick.
-    fn take<R: Runs, A: Aim, E: Estimate, L: Ledger>(
+    pub(crate) fn take<R: Runs, A: Aim, E: Estimate, L: Ledger>(
         &mut self,
         frontier: &mut Frontier,
         problem: &Problem<'_, R, A>,

@@ -2,8 +2,8 @@ use Rattle.std.proofs.Common.{Bool, IsTrue, subst}
 use Rattle.jump_search.proofs.Answering.{answer_at_start}
 use Rattle.jump_search.proofs.search.found_at_start.Goals as goal
 
-pub returns : goal.returns
-returns g c =
+pub returns-clause-answer : goal.returns-clause-answer
+returns-clause-answer g c =
     let q = c.args.question.now in
     let told : IsTrue (g.A.Aim.hit q.aim.now c.size.result q.start) =
     subst (λ (b : Bool). IsTrue b) c.hits.ensures c.if-not-hits.false in
