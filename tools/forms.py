@@ -1,10 +1,12 @@
 #!/usr/bin/env python3
 """Prints the table of forms: the keys of each line and goal of a script, what stands under them, and the numbers of the C structs.
 
-It is read out of the crates: the forms out of the table of script_text, the numbers and the post as a struct out of flat_posts and
-pathserve_c. `forms.py --write` writes the numbers, and the post as a struct, wherever the header and the packages repeat
-them; `forms.py --check` writes nothing and ends with 1 where one of these is not current. What is written by hand beside
-them, makers of posts, docs/FORMAT.md and examples/check.py, `tools/tests/test_forms.py` holds against the table.
+It is read out of the crates: the forms out of the table of script_text, the numbers, the post as a struct and the fields that each
+kind uses out of flat_posts and pathserve_c. `forms.py --write` writes the numbers, the post as a struct and the makers of
+posts for Python, Rust and JavaScript, wherever the header and the packages repeat them. `forms.py --check` writes nothing
+and ends with 1 where one of these is not current, or where a maker that is written by hand, in the header, for C++ or C#,
+leaves out a field of its kind. What else is written by hand, docs/FORMAT.md and examples/check.py, `tools/tests/test_forms.py`
+holds against the table.
 """
 import itertools
 import os
@@ -156,6 +158,12 @@ def post_fields():
     return [Field(name, type_, as_remark(about)) for about, name, type_ in found]
 
 
+def uses():
+    """The fields that each kind of posts uses, beside its kind and its caller, in the order in which it names them."""
+    rows = re.findall(r"^/// \| `([A-Z_]+)` \| (.*) \|$", read(POST), re.MULTILINE)
+    return {kind: re.findall(r"`(\w+)`", told) for kind, told in rows}
+
+
 def post_size():
     """How many bytes a post has as a struct."""
     return re.search(r"size_of::<FlatPost>\(\) == (\d+)", read(POST))[1]
@@ -182,6 +190,8 @@ def lines():
         yield from (f"    {value:>2} {name}" for name, value in values(of).items())
     yield "fields of a post"
     yield from (f"    {it.type:<4} {it.name}" for it in post_fields())
+    yield "fields of each kind of posts"
+    yield from (f"    {kind:<10} {', '.join(fields)}" for kind, fields in uses().items())
 
 
 # ---- what repeats it
@@ -351,6 +361,104 @@ def typed_goals(_):
     return "".join(f"  {name}({typed(parameters)}): GoalFields;\n" for name, parameters in found)
 
 
+# ---- makers of posts
+
+HALF = {"radius": "half"}  # what it is to the one kind of posts that uses it
+
+
+def python_makers(old):
+    """The makers with their parameters and the fields that they fill; their comments stay."""
+    names = {**HALF, "id": "number"}
+    order = [it.name for it in post_fields()]
+
+    def made(found):
+        name, comment, kind = found.groups()
+        fields = uses()[kind]
+        parameters = "".join(f", {names.get(it, it)}: {'Goal' if it == 'goal' else 'int'}" for it in fields)
+        filled = sorted((it for it in fields if it != "goal"), key=order.index)
+        values = [names.get(it, it) if order.index(it) == place + 2 else f"{it}={names.get(it, it)}" for place, it in enumerate(filled)]
+        values += ["**goal._asdict()"] * ("goal" in fields)
+        return f"def {name}(caller: int{parameters}) -> Post:\n{comment or ''}    return Post(PostKind.{kind}, caller, {', '.join(values)})\n"
+
+    pattern = r'^def (\w+)\([^)]*\) -> Post:\n(    """[^\n]*"""\n)?    return Post\(PostKind\.(\w+),[^\n]*\n'
+    return re.sub(pattern, made, old, flags=re.MULTILINE)
+
+
+def script_makers(old):
+    """The same for JavaScript."""
+
+    def made(found):
+        name, kind = found.groups()
+        fields = {it.name: it.camel() for it in post_fields() if it.name in uses()[kind]}
+        names = [fields[it] for it in uses()[kind]]
+        parameters = ", ".join(HALF.get(it, it) for it in names)
+        filled = ["...goal" if it == "goal" else f"{it}: {HALF[it]}" if it in HALF else it for it in names]
+        return f"export const {name} = (caller, {parameters}) => ({{ kind: PostKind.{kind}, caller, {', '.join(filled)} }});"
+
+    return re.sub(r"^export const (\w+) = \(.*?\) => \(\{ kind: PostKind\.(\w+),.*\}\);$", made, old, flags=re.MULTILINE)
+
+
+RUST_NAMES = {**HALF, "class_number": "class"}
+
+
+def rust_parameters(kind):
+    """The fields of a kind as those of a variant: the names, and these with their types."""
+    types = {it.name: it.type for it in post_fields()} | {"goal": "Goal"}
+    fields = ["caller", *uses()[kind]]
+    names = [RUST_NAMES.get(it, it) for it in fields]
+    return names, ", ".join(f"{name}: {types[it]}" for it, name in zip(fields, names))
+
+
+def rust_variants(_):
+    return "".join(f"    {it.in_words()} {{ {rust_parameters(it.name)[1]} }},\n" for it in numbers("posts"))
+
+
+def rust_arms(_):
+    text = ""
+    for it in numbers("posts"):
+        filled = [f"{field}: {RUST_NAMES[field]}" if field in RUST_NAMES else field for field in uses()[it.name] if field != "goal"]
+        rest = "goal.raw()" if "goal" in uses()[it.name] else "none"
+        pattern = f"Post::{it.in_words()} {{ {', '.join(rust_parameters(it.name)[0])} }}"
+        value = f"sys::Post {{ kind: sys::{it.name}, caller, {', '.join(filled)}, ..{rest} }}"
+        line = f"            {pattern} => {value},\n"
+        text += line if len(line) < 118 else f"            {pattern} => {{\n                {value}\n            }}\n"
+    return text
+
+
+def rust_path(_):
+    names, typed = rust_parameters("PATH")
+    of_self = typed.replace(", goal: Goal", "")
+    filled = ", ".join("goal: self" if it == "goal" else it for it in names)
+    return f"{of_self}) -> Post {{\n        Post::Path {{ {filled} }}\n"
+
+
+def in_header(kind):
+    return [rf"^PATHSERVE_MAKER pathserve_post pathserve_make_{it}\(.*?^\}}" for it in ("post", kind.lower())]
+
+
+def in_cpp(kind):
+    """A maker there begins with that of another kind, or is the class of goals."""
+    if kind == "PATH":
+        return [r"^    Post path\(.*?^    \}", r"^    Goal\(int kind.*?^    \}"]
+    others = {"ADD_SQUARE": ["add_unit", "add_rectangle"], "MOVE": ["remove", "move_to"]}
+    return [rf"^inline Post {it}\(.*?^\}}" for it in others.get(kind, [kind.lower()])]
+
+
+def in_csharp(kind):
+    name = "".join(it.capitalize() for it in kind.split("_"))
+    return [rf"static Post {name}\([^)]*\)(?: \{{[^\n]*|\n.*?^        \}})"]
+
+
+def missing():
+    """The fields that a maker leaves out which is written by hand."""
+    fields = {it.name: it.camel()[0].upper() + it.camel()[1:] for it in post_fields()}
+    places = [(HEADER, in_header, r"\.{0} = "), ("examples/cpp/pathserve.hpp", in_cpp, r"\.{0} = "), (CSHARP, in_csharp, r"\b{1} = ")]
+    for (file, makers, filled), (kind, used) in itertools.product(places, uses().items()):
+        found = [re.search(it, read(file), re.MULTILINE | re.DOTALL) for it in makers(kind)]
+        text = "".join(it[0] for it in found) if all(found) else ""
+        yield from (f"{file}: the maker of {kind} leaves out {it}" for it in used if not re.search(filled.format(it, fields[it]), text))
+
+
 def header_place(of, begin):
     return Place(HEADER, begin, r"\};", header_enum(of))
 
@@ -389,8 +497,12 @@ PLACES = [
     python_place("refusals", PYTHON_POSTS, "Refusal"),
     Place(PYTHON_NATIVE, r"^class PostStruct\(.*?_fields_ = \[\n", r"    \]", python_struct),
     Place(PYTHON_POSTS, r"^class Post\(NamedTuple\):\n.*?\n\n", r"\n    def ", python_post),
+    Place(PYTHON_POSTS, r"^        return filled\(PostStruct.*?\n\n\n", r"^class Kind\(", python_makers),
     Place(RUST_SYS, r"^pub const ANSWERS: u32 = \d+;\n\n", r"\n/// A match: ", rust_numbers),
     Place(RUST_SYS, r"^pub struct Post \{\n", r"\}", rust_struct),
+    Place(RUST_POSTS, r"^pub enum Post \{\n", r"^\}", rust_variants),
+    Place(RUST_POSTS, r"^impl Post \{.*?\n        match \*self \{\n", r"^        \}\n", rust_arms),
+    Place(RUST_POSTS, r"^    pub fn path\(self, ", r"^    \}\n", rust_path),
     Place(RUST_POSTS, r"^pub enum Refusal \{\n", r"\}", rust_refusals),
     Place(RUST_POSTS, r"^fn refusal\(.*\n    match why \{\n", r"        other ", rust_refusal_arms),
     csharp_place("statuses", "Status"),
@@ -405,6 +517,7 @@ PLACES = [
     *script_places("posts", "PostKind"),
     *script_places("goals", "GoalKind"),
     Place(SCRIPT, r"^const POST = struct\(\n", r"\);", script_struct),
+    Place(SCRIPT, r"^// ---- posts\n", r"^// ---- flow fields", script_makers),
     Place(SCRIPT, r'^const KINDS = \["", ', r"\]", script_names("replies", ", ")),
     Place(SCRIPT, r'^const WHYS = \["", ', r"\]", script_names("refusals", ", ")),
     Place(SCRIPT_TYPES, r"^export interface Post \{\n", r"\}", typed_post),
@@ -420,7 +533,10 @@ def main(words):
         marks.write(PLACES)
         return 0
     if words == ["--check"]:
-        return marks.check(PLACES, "tools/forms.py --write")
+        wrong = list(missing())
+        for it in wrong:
+            commands.say(it)
+        return marks.check(PLACES, "tools/forms.py --write") or bool(wrong)
     if words:
         return commands.usage(__doc__, words)
     for line in lines():

@@ -16,6 +16,7 @@ from places import TOP, read, tool
 sys.path.insert(0, f"{TOP}/examples")
 import check  # noqa: E402
 import forms  # noqa: E402
+import marks  # noqa: E402
 import specs  # noqa: E402
 
 
@@ -34,10 +35,11 @@ PAGE = read("docs/FORMAT.md").decode().partition("\n## The script\n")[2].partiti
 ROWS = {"Map": "map", "Base": "base", "AddUnit": "add", "AddSquare": "add", "Remove": "remove", "Move": "move", "Path": "path",
         "Region": "region", "End": "end"}
 WORDS = ["One", "Two", "Three", "Four", "Five", "Six"]
+CPP = "examples/cpp/pathserve.hpp"
 # In each file that has makers of posts: what these stand in, and how they name a kind.
 MAKERS = {
     forms.HEADER: (r"^PATHSERVE_MAKER .*?^\}", r"PATHSERVE_([A-Z_]+)"),
-    "examples/cpp/pathserve.hpp": (r"^inline Post .*?^\}|^class Goal .*?^\}", r"PATHSERVE_([A-Z_]+)"),
+    CPP: (r"^inline Post .*?^\}|^class Goal .*?^\}", r"PATHSERVE_([A-Z_]+)"),
     forms.PYTHON_POSTS: (r".+", r"(?:Post|Goal)Kind\.([A-Z_]+)"),
     forms.RUST_POSTS: (r"fn raw\(.*?^    \}", r"sys::([A-Z_]+)"),
     forms.CSHARP: (r"public struct Post$.*?^    \}", r"(?:Post|Goal)Kind\.(\w+)"),
@@ -51,6 +53,12 @@ NAMED = [
     (forms.CSHARP, r"public static Post (\w+)\([^)]*\)\s*\{[^}]*? Kind = PostKind\.(\w+)"),
     (forms.SCRIPT, r"^export const (\w+) = \(.*?\) => \(\{ kind: PostKind\.(\w+),"),
 ]
+# In each file with makers by hand: what one of these fills, and the kinds that then lack it.
+LEFT_OUT = {
+    forms.HEADER: ("    post.hw = hw;\n", ("ADD_SQUARE", "hw")),
+    CPP: ("    post.id = id;\n", ("ADD_UNIT", "id"), ("ADD_SQUARE", "id")),
+    forms.CSHARP: ("post.Hh = hh;", ("ADD_SQUARE", "hh")),
+}
 OUTCOMES = r"sys::([A-Z_]+) => Outcome::(\w+)"
 
 
@@ -94,30 +102,43 @@ class Written(unittest.TestCase):
 
     def test_what_is_new_is_written_to_each_place(self):
         """A number more of each kind and a field more come into each file, and go again where the crates have them no more."""
-        numbers, fields, size = {of: forms.numbers(of) for of in forms.NUMBERS}, forms.post_fields(), forms.post_size()
+        numbers, fields, size, uses = {of: forms.numbers(of) for of in forms.NUMBERS}, forms.post_fields(), forms.post_size(), forms.uses()
         more = {of: [*its, forms.Number("LEAP_FROG", 99, its[0].type, "a leap")] for of, its in numbers.items()}
+        used = {kind: [*its, "leap_far"] for kind, its in uses.items()} | {"LEAP_FROG": ["leap_far"]}
         files = list(dict.fromkeys(it.file for it in forms.PLACES))
         with tempfile.TemporaryDirectory() as top, mock.patch.object(specs, "TOP", top):
-            for file in files:
+            for file in [*files, CPP]:
                 os.makedirs(os.path.dirname(f"{top}/{file}"), exist_ok=True)
                 shutil.copy(f"{TOP}/{file}", f"{top}/{file}")
             changed = [*fields, forms.Field("leap_far", "u64", "how far a frog leaps")]
-            with mock.patch.multiple(forms, numbers=more.get, post_fields=lambda: changed, post_size=lambda: "99"):
-                self.assertEqual([forms.main(["--write"]), forms.main(["--check"])], [0, 0])
+            with mock.patch.multiple(forms, numbers=more.get, post_fields=lambda: changed, post_size=lambda: "99", uses=lambda: used):
+                self.assertEqual([forms.main(["--write"]), marks.check(forms.PLACES, "")], [0, 0])
                 for file in files:
                     self.assertRegex(specs.read(file), r"(?i)\bleap[_-]?frog\b|\bPATHSERVE_LEAP_FROG = 99 ", file)
-                for file in set(files) - {forms.RUST_POSTS}:
                     self.assertRegex(specs.read(file), r"(?i)\bleap_?far\b", file)
                 header = specs.read(forms.HEADER)
                 self.assertRegex(header, r"(?m)^    uint64_t leap_far; +/\* how far a frog leaps \*/$")
                 self.assertEqual(len(re.findall(r"PATHSERVE_SIZE_POST = 6, +/\* 99 |PATHSERVE_HAS_SIZE\(pathserve_post, 99\)", header)), 2)
                 self.assertIn(f"/* each of the {len(changed)} fields is 0 */", header)
-            with mock.patch.multiple(forms, numbers=numbers.get, post_fields=lambda: fields, post_size=lambda: size):
+                for file, maker in ((forms.PYTHON_POSTS, "leap_far: int)"), (forms.SCRIPT, ", leapFar) => ("), (forms.RUST_POSTS, ", leap_far, ..")):
+                    self.assertEqual(specs.read(file).count(maker), len(uses) + (file == forms.RUST_POSTS), file)
+                wanted = {f"{file}: the maker of {kind} leaves out leap_far" for file in (forms.HEADER, CPP, forms.CSHARP) for kind in used}
+                self.assertEqual(set(forms.missing()), wanted)
+            with mock.patch.multiple(forms, numbers=numbers.get, post_fields=lambda: fields, post_size=lambda: size, uses=lambda: uses):
                 with contextlib.redirect_stderr(io.StringIO()) as said:
                     self.assertEqual([forms.main(["--check"]), forms.main(["--write"])], [1, 0])
                 self.assertEqual(said.getvalue().count("\n"), len(files))
             for file in files:
                 self.assertEqual(specs.read(file), read(file).decode(), file)
+
+    def test_a_maker_that_leaves_out_a_field_is_found(self):
+        for file, (line, *others) in LEFT_OUT.items():
+            def changed(name):
+                return specs.read(name).replace(line, "", 1) if name == file else specs.read(name)
+
+            self.assertIn(line, specs.read(file))
+            with mock.patch.object(forms, "read", changed):
+                self.assertEqual(list(forms.missing()), [f"{file}: the maker of {kind} leaves out {field}" for kind, field in others], file)
 
     def test_comments_of_the_header_stay(self):
         with mock.patch.object(forms, "numbers", lambda of: [forms.Number("POINT", 1, "u8", "new"), forms.Number("RING", 2, "u8", "new too")]):
