@@ -4,11 +4,11 @@
 //!    searches note what they open --> a class has earned tables --> the next version has four more
 //! ```
 //!
-//! To make four tables costs about what it costs to open one jump state for each fourth cell of the map. Where the searches
-//! of a class have opened one for each seventh since its last tables, the next version gets four more, so that a match pays
-//! for tables at most about one and a half times what it has paid for searches. One at a time would come as dear and tell
-//! less till all are there. Tables are those of the map where nothing stands. They serve each of its versions, since
-//! obstructions take steps away and give none, and no edit touches them.
+//! To make four tables costs about what it costs to open one jump state for each third cell of the map. Where the searches of
+//! a class have opened one for each seventh since its last tables, the next version gets four more. So a match may pay for
+//! tables two to four times what it has paid for searches by then, which comes back after one hundred to two thousand more
+//! long paths. One at a time would come as dear and tell less till all are there. Tables are those of the map where nothing
+//! stands. They serve each of its versions, since obstructions take steps away and give none, and no edit touches them.
 ghost use Rattle.std.specs.Prelude.{ℕ, ◌≡◌, ◌<◌, ◌≤◌, ◌^◌, length, slice_get, replicate, None, Some, IfOk, IfSome};
 ghost use Rattle.std.specs.FinMap as fin_map;
 ghost use Rattle.nav_types.specs.Cells.{IsInside};
