@@ -1,16 +1,15 @@
 -- The regions with links: their marks, their places and their areas while they are made.
-use Rattle.std.proofs.Common.{◌≡◌, ◌≢◌, ℕ, ◌+◌, ◌<◌, ◌≤◌, ◌||◌, ◌⊎◌, Bool, List, [], ◌∷◌, ◌++◌, length, get_or, set, take, sum, refl, sym, ap, ◌∙◌, subst, inl, inr, arith, length-append, get_or-set_same, get_or-set_other}
-use Rattle.std.specs.Prelude.{All, Contains, IsTrue, ◌==◌}
+use Rattle.std.proofs.Common.{◌≡◌, ◌≢◌, ℕ, ◌+◌, ◌<◌, ◌||◌, List, [], ◌∷◌, ◌++◌, length, get_or, set, take, sum, refl, sym, ap, ◌∙◌, subst, inl, inr, arith, length-append, get_or-set_same, get_or-set_other}
+use Rattle.std.specs.Prelude.{All, IsTrue, ◌==◌}
 use Rattle.std.proofs.lemmas.Bool.{cases_lt, cases_eq, or_cases, or_left, or_right, eq-eqb, eqb-true}
-use Rattle.std.proofs.lemmas.List.{get_or_append_left, get_or_push, length-set}
+use Rattle.std.proofs.lemmas.List.{get_or_append_left, get_or_push}
 use Rattle.std.proofs.lemmas.List.Elements.{All-get_or, All-more, All-weaker, All-contains, All-from_get_or, All-take, Contains-get_or}
 use Rattle.reach_sets.specs.declared.regions.RegionId.{RegionId}
-use Rattle.reach_sets.specs.RegionOrder.{IsRegion, place}
+use Rattle.reach_sets.specs.RegionOrder.{place}
 use Rattle.reach_sets.specs.inner.Forests.{IsForest}
 use Rattle.reach_sets.specs.inner.Marks.{is_marked, marked_before}
-use Rattle.reach_sets.specs.inner.Linked.{IsEnd, HasMarks, AreEnds, ArePlaces, children_before, AreEndAreas}
-use Rattle.reach_sets.proofs.MarkLemmas.{before_below, same_number}
-use Rattle.reach_sets.proofs.RowLemmas.{place_inside}
+use Rattle.reach_sets.specs.inner.Linked.{IsEnd, HasMarks, AreEnds, ArePlaces, children_before}
+use Rattle.reach_sets.proofs.MarkLemmas.{same_number}
 
 -- ---- marks
 

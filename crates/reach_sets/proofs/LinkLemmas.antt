@@ -1,7 +1,7 @@
 -- A forest over regions while the links are read. `at` gives the region of a place of the forest, `of` a region's place.
 use Rattle.std.proofs.Common.{◌≡◌, ℕ, ◌+◌, ◌<◌, ◌⊎◌, List, length, get_or, take, refl, sym, ap, ◌∙◌, subst, inl, inr}
 use Rattle.std.specs.Prelude.{Contains, All, ◌↔◌}
-use Rattle.std.proofs.lemmas.List.Elements.{All-contains, All-weaker, All-get_or, All-more, Contains-get_or}
+use Rattle.std.proofs.lemmas.List.Elements.{All-contains, All-weaker, All-more, Contains-get_or}
 use Rattle.reach_sets.specs.declared.regions.RegionId.{RegionId}
 use Rattle.reach_sets.specs.RegionOrder.{IsRegion, place}
 use Rattle.reach_sets.specs.AreaNumbers.{IsLink, AreJoined}

@@ -1,5 +1,5 @@
 -- A forest over marked places, seen as one over all places.
-use Rattle.std.proofs.Common.{◌≡◌, ◌≢◌, ℕ, zero, suc, Bool, false, ◌+◌, ◌-◌, ◌/◌, ◌<◌, ◌≤◌, List, length, get_or, sum, refl, sym, ap, ◌∙◌, subst, inl, inr, arith}
+use Rattle.std.proofs.Common.{◌≡◌, ℕ, false, ◌<◌, ◌≤◌, List, length, get_or, sum, sym, ap, ◌∙◌, subst, inl, inr, arith}
 use Rattle.std.specs.Prelude.{All, IsTrue, if◌then◌else◌}
 use Rattle.std.proofs.lemmas.Bool.{cases_lt, cases_Bool}
 use Rattle.std.proofs.lemmas.List.Elements.{All-get_or, All-from_get_or}
@@ -7,7 +7,7 @@ use Rattle.std.proofs.lemmas.List.FromFn.{length-map-range_with_len, get_or-map-
 use Rattle.reach_sets.specs.declared.regions.RegionId.{RegionId}
 use Rattle.reach_sets.specs.RegionOrder.{IsRegion, place}
 use Rattle.reach_sets.specs.AreaNumbers.{IsLink, AreJoined}
-use Rattle.reach_sets.specs.inner.Forests.{IsForest, HasParent, AreInOneTree, IsForestOf}
+use Rattle.reach_sets.specs.inner.Forests.{IsForest, HasParent, AreInOneTree}
 use Rattle.reach_sets.specs.inner.Marks.{is_marked, marked_before}
 use Rattle.reach_sets.specs.inner.Linked.{HasMarks, AreEnds, ArePlaces, parent_at, all_parents, IsEndForest}
 use Rattle.reach_sets.proofs.ChainLemmas.{chained_self, chained_once, chained_to}

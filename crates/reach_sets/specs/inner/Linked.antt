@@ -1,9 +1,8 @@
 -- Areas of regions of which few have links: a region without links is an area of its own.
-use Rattle.std.specs.Prelude.{ℕ, zero, suc, ◌≡◌, ◌≢◌, ◌<◌, ◌≤◌, ◌+◌, ◌-◌, ◌*◌, ◌^◌, ◌/◌, ◌==◌, ◌⊎◌, List, length, map, sum, slice_index, if◌then◌else◌, IsTrue, All, Contains}
+use Rattle.std.specs.Prelude.{ℕ, zero, suc, ◌≡◌, ◌≢◌, ◌<◌, ◌≤◌, ◌+◌, ◌-◌, ◌^◌, ◌/◌, ◌==◌, ◌⊎◌, List, length, map, sum, slice_index, if◌then◌else◌, IsTrue, All, Contains}
 use Rattle.std.specs.List.{range_with_len}
 use Rattle.reach_sets.specs.declared.regions.RegionId.{RegionId}
-use Rattle.reach_sets.specs.RegionOrder.{IsRegion, place}
-use Rattle.reach_sets.specs.AreaNumbers.{AreJoined}
+use Rattle.reach_sets.specs.RegionOrder.{place}
 use Rattle.reach_sets.specs.inner.Forests.{IsForest, IsForestOf}
 use Rattle.reach_sets.specs.inner.Marks.{is_marked, marked_before}
 

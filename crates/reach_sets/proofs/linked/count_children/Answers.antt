@@ -1,4 +1,4 @@
-use Rattle.std.proofs.Common.{◌≡◌, ◌+◌, ℕ, ap, sym, length, ◌∙◌, arith}
+use Rattle.std.proofs.Common.{◌+◌, ap, sym, ◌∙◌, arith}
 use Rattle.reach_sets.specs.inner.Linked.{children_before}
 use Rattle.reach_sets.proofs.EndLemmas.{counts_more}
 use Rattle.reach_sets.proofs.LinkedLemmas.{children_le, children_root, children_child}

@@ -1,7 +1,7 @@
-use Rattle.std.proofs.Common.{◌≡◌, ◌≢◌, ◌+◌, ◌-◌, ◌<◌, ◌≤◌, ℕ, List, ap, sym, subst, length, get_or, ◌∙◌, refl, arith, Vec, Global}
+use Rattle.std.proofs.Common.{◌≡◌, ◌+◌, ◌-◌, ◌<◌, ◌≤◌, ℕ, ap, sym, length, get_or, ◌∙◌, arith, Vec, Global}
 use Rattle.std.proofs.lemmas.List.{get_or_read}
 use Rattle.reach_sets.specs.inner.Linked.{children_before}
-use Rattle.reach_sets.proofs.EndLemmas.{AreFirstAreas, areas_more}
+use Rattle.reach_sets.proofs.EndLemmas.{areas_more}
 use Rattle.reach_sets.proofs.LinkedLemmas.{children_le}
 use Rattle.reach_sets.proofs.linked.number_ends.Goals as goal
 use Rattle.reach_sets.proofs.linked.number_ends.Goals.{then-parent-place+in_ok-push, else-parent-place+in_ok-push-2}
