@@ -1,7 +1,7 @@
 #!/usr/bin/env python3
 """times.py PROGRAM [PART ..]: milliseconds and memory of the program, as a game sees them over its pipes.
 
-The parts are maps, steps, turns, workers, dearest, memory and course; all of them where none is named. Each is of one match or a
+The parts are maps, steps, turns, workers, dearest, memory, tables and course; all of them where none is named. Each is of one match or a
 few: a turn is timed from its first post, or its end line, to its last answer. What else runs on the machine is in these
 times, which is why most parts say the least of several turns; `measure.py` counts what does not vary. The maps and posts
 are drawn from fixed seeds.
@@ -230,6 +230,23 @@ def memory(program):
     told("three paths in rooms of 2048 by 2048 (and with fields)", *figures, unit="10.1f")
 
 
+def tables(program):
+    print("tables: MB at the most where each fifth navcell is blocked: after the set-up, after a turn of 20 long paths of each")
+    print("  class, and when the classes have the tables of landmarks that they get")
+    for side, classes in ((512, 1), (512, 4), (512, 16), (1024, 1), (1024, 4), (2048, 1), (2048, 4)):
+        (_, *base), paths = drawn("scattered", side, 20)
+        base = [it.replace(",1]", f",{2**classes - 1}]") for it in base]
+        posts = [it.replace('"c0"', f'"c{k}"') for k in range(classes) for it in paths]
+        match = opened(program, [map_line(side, ["0"] * classes), *base])
+        figures = [match.memory()]
+        for more in (1, 4 * classes):
+            for _ in range(more):
+                match.play(posts)
+            figures.append(match.memory())
+        told(f"{side} by {side}, {classes} class{'es' * (classes > 1)}", *figures, unit="10.1f")
+        match.close()
+
+
 def course(program):
     print("course: 50,000 turns of one edit each on 2048 by 2048 with 8 classes, mean of the first 1,000 and of the last 1,000")
     for many in (1000, 65000):
@@ -241,7 +258,7 @@ def course(program):
         match.close()
 
 
-PARTS = [maps, steps, turns, workers, dearest, memory, course]
+PARTS = [maps, steps, turns, workers, dearest, memory, tables, course]
 
 
 def main(words):

@@ -453,13 +453,13 @@ fn searched(
 /// A corridor that winds through 8 by 5 cells.
 const SNAKE: &str = "......../#######./......../.#######/........";
 
-// How many jump states searches open before the edits, and how many tables there are after these. Four tables on the
-// snake cost 10 jump states: a seventh of its cells, with a border of one cell. A class has at most eight.
+// How many jump states searches open before the edits, and how many tables there are after these. Two tables on the
+// snake cost 11 jump states: a sixth of its cells, with a border of one cell. A class has at most eight.
 const EARNINGS: [(u64, &str, usize); 6] = [
-    (9, "", 0),
-    (1, "", 4),
-    (9, "", 4),
-    (1, "add 1 65535 unit 98304 32768 16384", 8),
+    (10, "", 0),
+    (1, "", 2),
+    (10, "", 2),
+    (1, "add 1 65535 unit 98304 32768 16384", 4),
     (1_000_000, "remove 1", 8),
     (1_000_000, "", 8),
 ];
@@ -492,10 +492,10 @@ fn tables_know_the_terrain_of_their_class(rt: HostRuntime) {
         panic!(rt; "no map");
     };
     // the corridor is open for class 1
-    let Some(next) = searched(&version, rt.alloc(), (1, 10), "") else {
+    let Some(next) = searched(&version, rt.alloc(), (1, 11), "") else {
         panic!(rt; "no version");
     };
     let bound = bound_in(&next, 1, [0, 4]).unwrap_or(u64::MAX);
-    assert!(rt; tables_of(&next, 0) == 0 && tables_of(&next, 1) == 4);
+    assert!(rt; tables_of(&next, 0) == 0 && tables_of(&next, 1) == 2);
     assert!(rt; bound <= 4 * 12 * 5_451, "{bound}");
 }

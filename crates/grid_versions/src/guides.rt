@@ -1,14 +1,13 @@
 //! Tables of landmarks that the searches of a class have earned.
 //!
 //! ```text
-//!    searches note what they open --> a class has earned tables --> the next version has four more
+//!    searches note what they open --> a class has earned tables --> the next version has two more
 //! ```
 //!
-//! To make four tables costs about what it costs to open one jump state for each third cell of the map. Where the searches of
-//! a class have opened one for each seventh since its last tables, the next version gets four more. So a match may pay for
-//! tables two to four times what it has paid for searches by then, which comes back after one hundred to two thousand more
-//! long paths. One at a time would come as dear and tell less till all are there. Tables are those of the map where nothing
-//! stands. They serve each of its versions, since obstructions take steps away and give none, and no edit touches them.
+//! To make two tables costs about what it costs to open one jump state for each sixth cell of the map. Where the searches of
+//! a class have opened as many since its last tables, the next version gets two more, so that a match pays for tables at most
+//! about what it has paid for searches. Tables are those of the map where nothing stands. They serve each of its versions,
+//! since obstructions take steps away and give none, and no edit touches them.
 ghost use Rattle.std.specs.Prelude.{ℕ, ◌≡◌, ◌<◌, ◌≤◌, ◌^◌, length, slice_get, replicate, None, Some, IfOk, IfSome};
 ghost use Rattle.std.specs.FinMap as fin_map;
 ghost use Rattle.nav_types.specs.Cells.{IsInside};
@@ -33,10 +32,10 @@ const CELL_BYTES: usize = 2 * MAX_TABLES;
 const LONG_SIDE: u16 = 1_024;
 
 /// How many tables are made for one price.
-const TABLES_AT_ONCE: usize = 4;
+const TABLES_AT_ONCE: usize = 2;
 
 /// For how many cells of the map one jump state has to be opened before tables are made.
-const CELLS_A_STATE: u64 = 7;
+const CELLS_A_STATE: u64 = 6;
 
 /// What the searches of a class go by, and what they have cost since that was made. Searches on all versions that share
 /// this are noted here. Contracts see the tables alone.
