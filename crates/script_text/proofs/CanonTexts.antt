@@ -1,5 +1,5 @@
 -- The texts of JSON values, piece by piece.
-use Rattle.std.proofs.Common.{◌≡◌, ℕ, zero, suc, ◌+◌, ◌/◌, ◌%◌, ◌<◌, ◌≤◌, ◌==◌, ◌&&◌, ◌||◌, List, [], ◌∷◌, ◌++◌, length, map, take, drop, min, Bool, true, false, not, cond, Some, nat_le, nat_lt, ℤ, decimal, refl, ap, sym, subst, ◌∙◌, append_assoc, append-nil, arith, le-leb}
+use Rattle.std.proofs.Common.{◌≡◌, ℕ, zero, suc, ◌+◌, ◌/◌, ◌%◌, ◌<◌, ◌≤◌, ◌==◌, ◌&&◌, ◌||◌, List, [], ◌∷◌, ◌++◌, length, map, take, drop, min, Bool, true, false, not, cond, Some, nat_le, nat_lt, ℤ, decimal, Result, Ok, Err, OnOk, refl, ap, sym, subst, ◌∙◌, append_assoc, append-nil, arith, le-leb}
 use Rattle.std.specs.Prelude.{unsigned_abs, flat_map, All}
 use Rattle.std.proofs.Math.ListN.{drop_of_length-le}
 use Rattle.std.proofs.lemmas.List.{take-append-drop, length-drop}
@@ -23,6 +23,7 @@ use Rattle.class_config.specs.Forms.{is_class_name}
 use Rattle.class_config.specs.Classes.{name_at, clearance_at}
 use Rattle.class_config.specs.declared.table.PassabilityClass.{PassabilityClass}
 use Rattle.script_text.specs.inner.Plain.{is_plain}
+use Rattle.script_text.specs.Table.{member_text}
 use Rattle.script_text.specs.Canon.{class_json, line, base_json, pieces, canon_base}
 
 -- ---- plain bytes
@@ -145,6 +146,25 @@ pub quoted-done : (text opened inner closed cs : List ℕ) → opened ≡ text +
 quoted-done text opened inner closed cs first second third plain =
     third ∙ ap (λ t. t ++ 34 ∷ []) (second ∙ ap (λ t. t ++ cs) first)
     ∙ append_assoc (text ++ 34 ∷ []) cs (34 ∷ []) ∙ append_assoc text (34 ∷ []) (cs ++ 34 ∷ []) ∙ ap (λ t. text ++ t) (sym (quoted-plain cs plain))
+
+-- ---- a key as it stands behind another
+
+-- it is a comma, a string and a colon
+member-quoted : (key : List ℕ) → list_all is_plain key ≡ true → member_text key ≡ 44 ∷ (compact_text (string key) ++ 58 ∷ [])
+member-quoted key plain = ap (λ (t : List ℕ). 44 ∷ t) (sym (ap (λ (t : List ℕ). t ++ 58 ∷ []) (quoted-plain key plain) ∙ ap (λ (t : List ℕ). 34 ∷ t) (append_assoc key (34 ∷ []) (58 ∷ []))))
+
+pub later-key : {T E : Type 0} (result : Result T E) (later : Bool) (text member now key : List ℕ) → later ≡ true → member ≡ member_text key
+    → list_all is_plain key ≡ true → OnOk result (now ≡ text ++ member) → OnOk result (now ≡ text ++ (comma_if later ++ (compact_text (string key) ++ 58 ∷ [])))
+later-key (Ok done) later text member now key is holds plain last =
+    last ∙ ap (λ (t : List ℕ). text ++ t) (holds ∙ member-quoted key plain) ∙ ap (λ (b : Bool). text ++ (comma_if b ++ (compact_text (string key) ++ 58 ∷ []))) (sym is)
+later-key (Err refused) later text member now key is holds plain last = tt
+
+pub first-key : {T E : Type 0} (result : Result T E) (later : Bool) (text member first now key : List ℕ) → later ≡ false → member ≡ member_text key → first ≡ drop 1 member
+    → list_all is_plain key ≡ true → OnOk result (now ≡ text ++ first) → OnOk result (now ≡ text ++ (comma_if later ++ (compact_text (string key) ++ 58 ∷ [])))
+first-key (Ok done) later text member first now key is holds rest plain last =
+    last ∙ ap (λ (t : List ℕ). text ++ t) (rest ∙ ap (λ (t : List ℕ). drop 1 t) (holds ∙ member-quoted key plain))
+    ∙ ap (λ (b : Bool). text ++ (comma_if b ++ (compact_text (string key) ++ 58 ∷ []))) (sym is)
+first-key (Err refused) later text member first now key is holds rest plain last = tt
 
 -- ---- pieces of an object
 

@@ -1,6 +1,6 @@
 -- Goals, all in one place: those of the grammar are those that are read, causes of wrong ones are true, and canonical ones
 -- read back.
-use Rattle.std.proofs.Common.{◌≡◌, inl, inr, ℕ, ◌&&◌, List, [], ◌∷◌, ◌++◌, length, Bool, true, false, not, cond, Option, Some, None, option_map, option_and_then, ℤ, refl, ap, sym, subst, ◌∙◌, arith, append_assoc, nat_le, nat_lt}
+use Rattle.std.proofs.Common.{◌≡◌, inl, inr, ℕ, ◌&&◌, List, [], ◌∷◌, ◌++◌, length, Bool, true, false, not, cond, Option, Some, None, option_map, option_and_then, ℤ, refl, ap, sym, subst, ◌∙◌, arith, append_assoc, append-nil, nat_le, nat_lt}
 use Rattle.std.specs.Prelude.{codes}
 use Rattle.std.proofs.lemmas.Slice.Eq.{bytes_eq-Decides}
 use Rattle.std.proofs.lemmas.Bool.{and_parts, leb-true, cond-true, cond-false, and_from, le-leb}
@@ -324,12 +324,12 @@ shape_text goal_key.NotSquare raws = refl
 shape_text goal_key.Obstruction raws = refl
 
 -- its pieces, behind what stands
-pub shape_pieces : (text : List ℕ) (key : GoalKey) (raws : List ℤ) (k : List ℕ) → k ≡ goal_key_text key
-    → ((text ++ 123 ∷ 34 ∷ (k ++ 34 ∷ 58 ∷ [])) ++ compact_text (decimals_json raws)) ++ 125 ∷ [] ≡ text ++ compact_text (shape_json (goal_key_text key) raws)
-shape_pieces text key raws k same =
-    let decimals = compact_text (decimals_json raws) in
-    append_assoc (text ++ 123 ∷ 34 ∷ (k ++ 34 ∷ 58 ∷ [])) decimals (125 ∷ [])
-    ∙ append_assoc text (123 ∷ 34 ∷ (k ++ 34 ∷ 58 ∷ [])) (decimals ++ 125 ∷ [])
-    ∙ ap (λ (j : List ℕ). text ++ 123 ∷ 34 ∷ ((j ++ 34 ∷ 58 ∷ []) ++ (decimals ++ 125 ∷ []))) same
+pub shape_pieces : (text : List ℕ) (key : GoalKey) (raws : List ℤ) (member : List ℕ) → member ≡ 34 ∷ (goal_key_text key ++ 34 ∷ 58 ∷ [])
+    → ((text ++ 123 ∷ (member ++ [])) ++ compact_text (decimals_json raws)) ++ 125 ∷ [] ≡ text ++ compact_text (shape_json (goal_key_text key) raws)
+shape_pieces text key raws member same =
+    let decimals = compact_text (decimals_json raws) in let quoted = 34 ∷ (goal_key_text key ++ 34 ∷ 58 ∷ []) in
+    ap (λ (j : List ℕ). ((text ++ 123 ∷ j) ++ decimals) ++ 125 ∷ []) (append-nil member ∙ same)
+    ∙ append_assoc (text ++ 123 ∷ quoted) decimals (125 ∷ [])
+    ∙ append_assoc text (123 ∷ quoted) (decimals ++ 125 ∷ [])
     ∙ ap (λ (t : List ℕ). text ++ 123 ∷ 34 ∷ t) (append_assoc (goal_key_text key) (34 ∷ 58 ∷ []) (decimals ++ 125 ∷ []))
     ∙ ap (λ (t : List ℕ). text ++ t) (sym (shape_text key raws))

@@ -1,7 +1,7 @@
 -- The table of the forms of lines: the keys of each form, in their order, the versions that have it, and what must stand
 -- under each key. What is read of a line, the cause of a bad one and the canonical text go by it. The keys of goals stand in
 -- `Goals.antt`.
-use Rattle.std.specs.Prelude.{ℕ, ◌&&◌, List, [], ◌∷◌, map, nat_le, Bool, true, Option, if◌then◌else◌, codes}
+use Rattle.std.specs.Prelude.{ℕ, ◌&&◌, List, [], ◌∷◌, ◌++◌, map, nat_le, Bool, true, Option, if◌then◌else◌, codes}
 use Rattle.std.specs.List.{find}
 use Rattle.std.proofs.Common.{refl}
 use Rattle.std.proofs.lemmas.Bool.{leb-true}
@@ -43,6 +43,10 @@ key_text key.Region = codes "region"
 key_text key.At = codes "at"
 key_text key.End = codes "end"
 key_text (key.OfGoal goal) = goal_key_text goal
+
+-- a key as it stands in an object behind another: a comma (44), the key in quotes (34) and a colon (58)
+abbrev pub member_text : List ℕ → List ℕ
+member_text key = 44 ∷ 34 ∷ (key ++ 34 ∷ 58 ∷ [])
 
 -- the keys of lines
 abbrev pub line_keys : List Key

@@ -1,11 +1,11 @@
 //! The goals of path lines, all in one place: their keys, how they are read and written, and why a value is none.
-ghost use Rattle.std.specs.Prelude.{◌≡◌, ◌++◌, OnOk};
+ghost use Rattle.std.specs.Prelude.{◌≡◌, ◌∷◌, [], ◌++◌, OnOk};
 ghost use Rattle.serde_json.specs.View.{view};
 ghost use Rattle.serde_json.specs.Written.{compact_text};
 ghost use Rattle.goal_shapes.specs.declared.goals.GoalSpec.TheVariants as goal_spec;
 ghost use Rattle.script_text.specs.Canon.{goal_json, shape_json};
 ghost use Rattle.script_text.specs.Goals as goals;
-ghost use Rattle.script_text.specs.Table.{key_text};
+ghost use Rattle.script_text.specs.Table.{key_text, member_text};
 ghost use Rattle.script_text.specs.ReadsBack.{AreFixed, IsGoalValue};
 ghost use Rattle.script_text.specs.Values.{under};
 
@@ -48,6 +48,20 @@ impl GoalKey {
         }
     }
 
+    /// The key as it stands in an object behind another: a comma, the key in quotes and a colon.
+    pub(crate) fn as_member(self) -> &'static str
+        ensures { result.now ≡ member_text (goals.goal_key_text self) }
+    {
+        match self {
+            GoalKey::Point => ",\"point\":",
+            GoalKey::Circle => ",\"circle\":",
+            GoalKey::NotCircle => ",\"not-circle\":",
+            GoalKey::Square => ",\"square\":",
+            GoalKey::NotSquare => ",\"not-square\":",
+            GoalKey::Obstruction => ",\"obstruction\":",
+        }
+    }
+
     /// What must stand under it.
     pub(crate) fn wanted(self) -> Wanted
         ensures { result ≡ goals.goal_wanted self }
@@ -60,11 +74,12 @@ impl GoalKey {
         }
     }
 
-    /// Its bytes.
-    fn as_bytes(self) -> &'static [u8]
-        ensures { result.now ≡ goals.goal_key_text self }
+    /// The key as the first of an object: the key in quotes and a colon.
+    fn as_first_member(self) -> &'static [u8]
+        ensures { result.now ≡ 34 ∷ (goals.goal_key_text self ++ 34 ∷ 58 ∷ []) }
     {
-        self.as_str().as_bytes()
+        let (_comma, member) = self.as_member().as_bytes().split_at(1);
+        member
     }
 }
 
@@ -199,9 +214,9 @@ fn push_obstruction_goal(text: &mut Bytes, id: u32, grow: Fixed) -> Result<(), N
     ensures values { OnOk result (IsGoalValue (goal_spec.Obstruction id grow)) }
 {
     let pieces = [
-        Piece::Bytes(b"{\""),
-        Piece::Bytes(GoalKey::Obstruction.as_bytes()),
-        Piece::Bytes(b"\":["),
+        Piece::Bytes(b"{"),
+        Piece::Bytes(GoalKey::Obstruction.as_first_member()),
+        Piece::Bytes(b"["),
         Piece::Whole(u64::from(id)),
         Piece::Bytes(b","),
         Piece::Decimal(grow),
@@ -231,11 +246,7 @@ fn push_shape(text: &mut Bytes, key: GoalKey, numbers: &[Fixed]) -> Result<(), N
     ensures text { OnOk result (text.new ≡ text.old ++ compact_text (shape_json (goals.goal_key_text key) numbers.now)) }
     ensures values { OnOk result (AreFixed numbers.now) }
 {
-    let pieces = [
-        Piece::Bytes(b"{\""),
-        Piece::Bytes(key.as_bytes()),
-        Piece::Bytes(b"\":"),
-    ];
+    let pieces = [Piece::Bytes(b"{"), Piece::Bytes(key.as_first_member())];
     push_pieces(text, &pieces)?;
     push_decimals(text, numbers)?;
     text.push(b'}')?;

@@ -3,7 +3,7 @@
 ghost use Rattle.std.specs.Prelude.{◌≡◌, ◌++◌, ◌∷◌, [], IsTrue, OnOk, map};
 ghost use Rattle.std.specs.List.{list_all};
 ghost use Rattle.serde_json.specs.Data.{string};
-ghost use Rattle.serde_json.specs.Written.{compact_text};
+ghost use Rattle.serde_json.specs.Written.{comma_if, compact_text};
 ghost use Rattle.script_text.specs.Canon as canon;
 ghost use Rattle.script_text.specs.Grammar.{shape_decimals};
 ghost use Rattle.script_text.specs.ReadsBack.{AreFixed};
@@ -12,7 +12,7 @@ ghost use Rattle.script_text.specs.inner.LineValues.{AreLineValues, IsLineValue,
 ghost use Rattle.script_text.specs.inner.Plain.{is_plain};
 
 use crate::canon::maps::{push_classes, push_entries};
-use crate::canon::pieces::{decimals_of, push_comma, push_decimals, push_name, push_quoted};
+use crate::canon::pieces::{decimals_of, push_decimals, push_name};
 use crate::causes::Key;
 use crate::goals::push_goal;
 use crate::table::Form;
@@ -59,8 +59,7 @@ pub(crate) fn push_form(
     text.push(b'{')?;
     let mut later = false;
     for place in 0..keys.len().min(values.len()) {
-        push_comma(text, later)?;
-        push_key(text, keys[place])?;
+        push_key(text, keys[place], later)?;
         push_value(text, &values[place])?;
         later = true;
     }
@@ -68,14 +67,18 @@ pub(crate) fn push_form(
     Ok(())
 }
 
-/// Appends a key and its colon.
-fn push_key(text: &mut Bytes, key: Key) -> Result<(), NoMemory>
+/// Appends a key and its colon, behind a comma where something stands before.
+fn push_key(text: &mut Bytes, key: Key, later: bool) -> Result<(), NoMemory>
     requires { IsTrue (list_all is_plain (key_text key)) }
-    ensures { OnOk result (text.new ≡ text.old ++ (compact_text (string (key_text key)) ++ 58 ∷ [])) }
+    ensures { OnOk result (text.new ≡ text.old
+        ++ (comma_if later ++ (compact_text (string (key_text key)) ++ 58 ∷ []))) }
 {
-    push_quoted(text, key.as_str().as_bytes())?;
-    text.push(b':')?;
-    Ok(())
+    let member = key.as_member().as_bytes();
+    if later {
+        return text.extend(member);
+    }
+    let (_comma, first) = member.split_at(1);
+    text.extend(first)
 }
 
 /// Appends the value under a key.

@@ -1,6 +1,6 @@
 //! The keys of lines, and what must stand under them.
 ghost use Rattle.std.specs.Prelude.{◌≡◌};
-ghost use Rattle.script_text.specs.Table.{key_text};
+ghost use Rattle.script_text.specs.Table.{key_text, member_text};
 
 use crate::goals::{GoalKey, goal_keys};
 use nav_types::Size;
@@ -58,6 +58,34 @@ impl Key {
             Key::At => "at",
             Key::End => "end",
             Key::OfGoal(goal) => goal.as_str(),
+        }
+    }
+
+    /// The key as it stands in an object behind another: a comma, the key in quotes and a colon.
+    pub(crate) fn as_member(self) -> &'static str
+        ensures { result.now ≡ member_text (key_text self) }
+    {
+        match self {
+            Key::Version => ",\"version\":",
+            Key::Size => ",\"size\":",
+            Key::Callers => ",\"callers\":",
+            Key::Classes => ",\"classes\":",
+            Key::Base => ",\"base\":",
+            Key::Caller => ",\"caller\":",
+            Key::Add => ",\"add\":",
+            Key::Unit => ",\"unit\":",
+            Key::Square => ",\"square\":",
+            Key::Mask => ",\"mask\":",
+            Key::Remove => ",\"remove\":",
+            Key::Move => ",\"move\":",
+            Key::To => ",\"to\":",
+            Key::Path => ",\"path\":",
+            Key::From => ",\"from\":",
+            Key::Goal => ",\"goal\":",
+            Key::Region => ",\"region\":",
+            Key::At => ",\"at\":",
+            Key::End => ",\"end\":",
+            Key::OfGoal(goal) => goal.as_member(),
         }
     }
 }

@@ -9,5 +9,5 @@ use Rattle.script_text.proofs.goals.push_obstruction_goal.Goals as goal
 pub returns-clause-text : goal.returns-clause-text
 unfolding serde_json_on_literals goal_json
 returns-clause-text c =
-    rw (c.in_ok-push_pieces.ensures.text, c.as_bytes.ensures, c.from.ensures)
+    rw (c.in_ok-push_pieces.ensures.text, c.as_first_member.ensures, c.from.ensures)
     (ap (λ r. c.args.text.now ++ ((123 ∷ key_text (codes "obstruction")) ++ 91 ∷ r)) (pair_pieces (decimal c.args.id) (compact_text (decimal_json c.args.grow)) (125 ∷ [])))
