@@ -188,7 +188,7 @@ fn lines_of_version_3_have_causes(rt: HostRuntime) {
 type Slip = (&'static str, u64, Mistake, &'static str);
 
 /// A line for each mistake, and for some of them a second.
-const SLIPS: [Slip; 23] = [
+const SLIPS: [Slip; 33] = [
     (
         "{\"end\":1} // done\n",
         11,
@@ -327,6 +327,66 @@ const SLIPS: [Slip; 23] = [
         Mistake::BehindValue,
         "byte 11: a line has one value, and this stands behind it",
     ),
+    (
+        "{\"end\":01}\n",
+        9,
+        Mistake::LeadingZero,
+        "byte 9: a number must not have a zero before its other digits",
+    ),
+    (
+        "{\"caller\":0,\"remove\":1,000}\n",
+        25,
+        Mistake::LeadingZero,
+        "byte 25: a number must not have a zero before its other digits",
+    ),
+    (
+        "{\"end\":1.}\n",
+        10,
+        Mistake::WrongNumber,
+        "byte 10: a number must be written as 0, -1.5 or 2e3",
+    ),
+    (
+        "[-0.5,1e+]\n",
+        10,
+        Mistake::WrongNumber,
+        "byte 10: a number must be written as 0, -1.5 or 2e3",
+    ),
+    (
+        "[-1.5E-3,-]\n",
+        11,
+        Mistake::WrongNumber,
+        "byte 11: a number must be written as 0, -1.5 or 2e3",
+    ),
+    (
+        "{\"end\":1.2.3}\n",
+        11,
+        Mistake::WrongNumber,
+        "byte 11: a number must be written as 0, -1.5 or 2e3",
+    ),
+    (
+        "{\"\\u12g4\":1}\n",
+        7,
+        Mistake::HexDigit,
+        "byte 7: four hexadecimal digits must stand behind \\u",
+    ),
+    (
+        "{\"\\ud83d\":1}\n",
+        9,
+        Mistake::HalfPair,
+        "byte 9: a half of a surrogate pair must stand with its other half, as in \\ud83d\\ude00",
+    ),
+    (
+        "{\"\\ud83d\\ude00\\uDE00\":1}\n",
+        18,
+        Mistake::HalfPair,
+        "byte 18: a half of a surrogate pair must stand with its other half, as in \\ud83d\\ude00",
+    ),
+    (
+        "{\"\\uD83D\\ud83d\":1}\n",
+        12,
+        Mistake::HalfPair,
+        "byte 12: a half of a surrogate pair must stand with its other half, as in \\ud83d\\ude00",
+    ),
 ];
 
 #[test]
@@ -364,7 +424,7 @@ fn lines_that_are_no_text_are_told_by_their_place(rt: HostRuntime) {
 }
 
 /// Lines without a mistake at a byte that are no JSON values.
-const ENDINGS: [Row; 6] = [
+const ENDINGS: [Row; 5] = [
     (
         "{\"caller\":0,\"path\":\"a\n",
         Cause::EndsInString,
@@ -382,11 +442,6 @@ const ENDINGS: [Row; 6] = [
     ),
     (
         "{\"end\":1]\n",
-        Cause::NotJson,
-        "the line must be one JSON value, with brackets that match, keys in quotes with a colon, and numbers as 0, -1.5 or 2e3",
-    ),
-    (
-        "{\"end\":01}\n",
         Cause::NotJson,
         "the line must be one JSON value, with brackets that match, keys in quotes with a colon, and numbers as 0, -1.5 or 2e3",
     ),

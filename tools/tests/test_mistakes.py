@@ -24,6 +24,7 @@ GOALS = f'the key "goal" must have an object with exactly one key: {forms.goals_
 VERSIONS = f'the key "version" must have a whole number from 1 to {forms.newest()}'
 BROKEN = "the line must be one JSON value, with brackets that match, keys in quotes with a colon, and numbers as 0, -1.5 or 2e3"
 WORDS = "only true, false, null and numbers stand without quotes"
+ZERO = "a number must not have a zero before its other digits"
 BEHIND = "a line has one value, and this stands behind it"
 FORM = "the line must be an object with exactly the keys of one form"
 PLACES = "the map line must be line 1 alone, and base lines must stand between it and the turns"
@@ -62,13 +63,16 @@ MISTAKES = [
     ("commas behind the lines", lines(FIRST + ",", END), 1, f"byte 126: {BEHIND}"),
     ("a semicolon behind a line", lines(FIRST, END + ";"), 2, f"byte 10: {WORDS}"),
     ("quotes of a word processor", lines(FIRST, "{\u201cend\u201d:1}"), 2, f"byte 2: {WORDS}"),
-    ("thousands with a comma", lines(FIRST, '{"caller":0,"remove":1,000}', END), 2, BROKEN),
-    ("a number with a leading zero", lines(FIRST, '{"end":01}'), 2, BROKEN),
+    ("thousands with a comma", lines(FIRST, '{"caller":0,"remove":1,000}', END), 2, f"byte 25: {ZERO}"),
+    ("a number with a leading zero", lines(FIRST, '{"end":01}'), 2, f"byte 9: {ZERO}"),
+    ("a number without its last digits", lines(FIRST, '{"end":1.}'), 2, "byte 10: a number must be written as 0, -1.5 or 2e3"),
+    ("a version for a number", lines(FIRST, '{"end":1.2.3}'), 2, "byte 11: a number must be written as 0, -1.5 or 2e3"),
     ("two colons", lines(FIRST, '{"end"::1}'), 2, "byte 8: a colon must stand behind a key in double quotes"),
     ("a bracket that closes a brace", lines(FIRST, '{"caller":0,"remove":1]', END), 2, BROKEN),
     ("a string that is cut off", lines(FIRST, '{"caller":0,"path":"inf'), 2, "the line must be one JSON value, and ends inside a string"),
     ("a tab in a name", lines(FIRST, PATH.replace("infantry", "in\tfantry"), END), 2, "byte 23: a control character must be written as \\u and four digits, in a string"),
-    ("half a surrogate pair", lines(FIRST, PATH.replace("infantry", "\\ud83d"), END), 2, BROKEN),
+    ("half a surrogate pair", lines(FIRST, PATH.replace("infantry", "\\ud83d"), END), 2, "byte 27: a half of a surrogate pair must stand with its other half, as in \\ud83d\\ude00"),
+    ("an escape of two digits", lines(FIRST, PATH.replace("infantry", "\\u41"), END), 2, "byte 25: four hexadecimal digits must stand behind \\u"),
     ("YAML", lines("version: 3", "size: [12, 8]"), 1, f"byte 1: {WORDS}"),
     ("the answers in place of the script", lines("turn 1 regions 4 edges 0 areas 4 relabelled 0"), 1, f"byte 6: {BEHIND}"),
     ("the mark of DOS at the end of a file", lines(FIRST, END) + "\x1a", 3, "byte 1: a control character must be written as \\u and four digits, in a string"),

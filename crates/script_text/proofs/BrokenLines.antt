@@ -7,8 +7,8 @@ use Rattle.std.proofs.lemmas.Str.{IsUtf8-from_is_utf8, is_utf8-from_IsUtf8}
 use Rattle.script_text.specs.declared.causes.Cause.{Cause}
 use Rattle.script_text.specs.declared.causes.Cause.TheVariants.{TooDeep, NotUtf8, NoJsonAt, EndsInString, EndsInValue, NotJson}
 use Rattle.script_text.specs.declared.causes.mistakes.Look.{Look}
-use Rattle.script_text.specs.declared.causes.mistakes.LineState.{LineState}
-use Rattle.script_text.specs.declared.causes.mistakes.LineState.TheVariants.{Outside, InWord, InString, BehindBackslash}
+use Rattle.script_text.specs.declared.causes.line_states.LineState.{LineState}
+use Rattle.script_text.specs.declared.causes.line_states.LineState.TheVariants.{Outside, InWord, InNumber, InString, InEscape}
 use Rattle.script_text.specs.declared.causes.mistakes.Mistake.{Mistake}
 use Rattle.script_text.specs.Nesting.{is_shallow}
 use Rattle.script_text.specs.Mistakes.{behind, mistake_at, ending_by, ending, told_at, broken_from, broken_cause}
@@ -60,8 +60,9 @@ broken-ending look = by_standing look.standing look.depth
     by_standing : (standing : LineState) (depth : ℕ) → IsBroken (ending_by standing depth)
     by_standing Outside depth = by_depth (nat_lt 0 depth)
     by_standing InWord depth = by_depth (nat_lt 0 depth)
+    by_standing (InNumber seen) depth = by_depth (nat_lt 0 depth)
     by_standing InString depth = tt
-    by_standing BehindBackslash depth = tt
+    by_standing (InEscape seen) depth = tt
 
 pub broken-is : (look : Look) (before : ℕ) (bytes : List ℕ) → IsBroken (broken_from look before bytes)
 broken-is look before [] = broken-ending look

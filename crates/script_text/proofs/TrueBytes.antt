@@ -11,14 +11,19 @@ use Rattle.script_text.specs.declared.parts.Part.{Part}
 use Rattle.script_text.specs.declared.causes.Cause.{Cause}
 use Rattle.script_text.specs.declared.causes.Cause.TheVariants.{BlankLine, ByteOrderMark, NoJsonAt, EndsInString, EndsInValue, NotJson}
 use Rattle.script_text.specs.declared.causes.mistakes.Look.{Look}
-use Rattle.script_text.specs.declared.causes.mistakes.LineState.{LineState}
-use Rattle.script_text.specs.declared.causes.mistakes.LineState.TheVariants.{Outside, InWord, InString, BehindBackslash}
+use Rattle.script_text.specs.declared.causes.line_states.LineState.{LineState}
+use Rattle.script_text.specs.declared.causes.line_states.LineState.TheVariants.{Outside, InWord, InNumber, InString, InEscape}
+use Rattle.script_text.specs.declared.causes.line_states.NumberState.{NumberState}
+use Rattle.script_text.specs.declared.causes.line_states.NumberState.TheVariants.{BehindMinus, BehindZero}
+use Rattle.script_text.specs.declared.causes.line_states.EscapeState.{EscapeState}
+use Rattle.script_text.specs.declared.causes.line_states.EscapeState.TheVariants.{Begun, Code, CodeD, Digits, FirstHalf, Pair, PairBackslash, PairCode, PairCodeD}
 use Rattle.script_text.specs.declared.causes.mistakes.Mistake.{Mistake}
-use Rattle.script_text.specs.declared.causes.mistakes.Mistake.TheVariants.{Comment, SingleQuote, NoNumber, NumberStart, BareWord, Control, Escape, TrailingComma, MissingComma, StrayColon, NoValue, BehindValue}
+use Rattle.script_text.specs.declared.causes.mistakes.Mistake.TheVariants.{Comment, SingleQuote, NoNumber, NumberStart, LeadingZero, WrongNumber, BareWord, Control, Escape, HexDigit, HalfPair, TrailingComma, MissingComma, StrayColon, NoValue, BehindValue}
 use Rattle.script_text.specs.Nesting.{closes}
 use Rattle.script_text.specs.Script.{reading_of}
 use Rattle.script_text.specs.Causes.{is_blank, has_mark, text_cause, unread_cause, reading_cause, cause}
-use Rattle.script_text.specs.Mistakes.{at_start, behind, look_from, mistake_by, mistake_at, mistake_outside, comma_mistake, colon_mistake, closing_mistake, value_mistake, strange_byte, begins_value, ends_value, is_control, is_escape, is_of_word, ending_by, told_at, broken_from, broken_cause}
+use Rattle.script_text.specs.LineStates.{is_digit, is_of_number, is_of_word, is_escape, is_hex, is_d, is_first, is_second, number_behind, is_number, hex_from, digits_behind, half_behind, behind_d, escape_behind}
+use Rattle.script_text.specs.Mistakes.{at_start, behind, look_from, mistake_by, mistake_at, mistake_outside, comma_mistake, colon_mistake, closing_mistake, value_mistake, strange_byte, begins_value, ends_value, is_control, wrong_number, number_mistake, wrong_escape, escape_mistake, ending_by, told_at, broken_from, broken_cause}
 use Rattle.script_text.specs.TrueBytes.{HasNoMistake, IsOutside, Says, IsInString, IsTrueOfBytes}
 use Rattle.script_text.proofs.BrokenLines.{text-causes}
 
@@ -112,6 +117,80 @@ outside-says look byte mistake out e = by_tests (is_space byte) refl (byte == 44
     by_tests false space false comma false colon false close true value h = value-says look byte mistake out space value h
     by_tests false space false comma false colon false close false value h = says (strange_byte byte) mistake look byte h (strange-says look byte out value close space)
 
+-- ---- a byte in a number or an escape
+
+wrong-number : (look : Look) (byte : ℕ) (seen : NumberState) → look.standing ≡ InNumber seen → number_behind seen byte ≡ None
+    → (is_of_number byte || not (is_number seen)) ≡ true → Says (wrong_number seen byte) look byte
+wrong-number look byte BehindZero at stops is = by_digit (is_digit byte) refl
+  where
+    by_digit : (b : Bool) → is_digit byte ≡ b → Says (cond b LeadingZero WrongNumber) look byte
+    by_digit true digit = (at, digit)
+    by_digit false other = (BehindZero, at, stops, is)
+wrong-number look byte BehindMinus at stops is = by_word (byte == 78 || byte == 73) refl
+  where
+    by_word : (b : Bool) → (byte == 78 || byte == 73) ≡ b → Says (cond b NoNumber WrongNumber) look byte
+    by_word true word = (subst IsOutside (sym at) tt, word)
+    by_word false other = (BehindMinus, at, stops, is)
+wrong-number look byte seen at stops is = (seen, at, stops, is)
+
+number-says : (look : Look) (byte : ℕ) (mistake : Mistake) (seen : NumberState) → look.standing ≡ InNumber seen
+    → number_mistake seen (number_behind seen byte) look byte ≡ Some mistake → Says mistake look byte
+number-says look byte mistake seen at e = by_next (number_behind seen byte) refl e
+  where
+    by_test : number_behind seen byte ≡ None → (b : Bool) → (is_of_number byte || not (is_number seen)) ≡ b
+        → cond b (Some (wrong_number seen byte)) (mistake_outside look byte) ≡ Some mistake → Says mistake look byte
+    by_test stops true is h = says (wrong_number seen byte) mistake look byte h (wrong-number look byte seen at stops is)
+    by_test stops false nay h = outside-says look byte mistake (subst IsOutside (sym at) tt) h
+
+    by_next : (next : Option NumberState) → number_behind seen byte ≡ next → number_mistake seen next look byte ≡ Some mistake → Says mistake look byte
+    by_next (Some next) goes h = absurd (cc)
+    by_next None stops h = by_test stops (is_of_number byte || not (is_number seen)) refl h
+
+no-hex : (next : LineState) (byte : ℕ) → hex_from next byte ≡ None → is_hex byte ≡ false
+no-hex next byte stops = by_digit (is_hex byte) refl stops
+  where
+    by_digit : (b : Bool) → is_hex byte ≡ b → cond b (Some next) None ≡ None → is_hex byte ≡ false
+    by_digit true digit h = absurd (cc)
+    by_digit false other h = other
+
+no-code : (byte : ℕ) → escape_behind Code byte ≡ None → is_hex byte ≡ false
+no-code byte stops = by_d (is_d byte) stops
+  where
+    by_d : (b : Bool) → cond b (Some (InEscape CodeD)) (hex_from (InEscape (Digits 3)) byte) ≡ None → is_hex byte ≡ false
+    by_d true h = absurd (cc)
+    by_d false h = no-hex (InEscape (Digits 3)) byte h
+
+no-escape : (byte : ℕ) → escape_behind Begun byte ≡ None → is_escape byte ≡ false
+no-escape byte stops = by_tests (byte == 117) (is_escape byte) refl stops
+  where
+    by_tests : (u b : Bool) → is_escape byte ≡ b → cond u (Some (InEscape Code)) (cond b (Some InString) None) ≡ None → is_escape byte ≡ false
+    by_tests true b is h = absurd (cc)
+    by_tests false true is h = absurd (cc)
+    by_tests false false is h = is
+
+wrong-escape : (look : Look) (byte : ℕ) (seen : EscapeState) → look.standing ≡ InEscape seen → escape_behind seen byte ≡ None → Says (wrong_escape seen byte) look byte
+wrong-escape look byte Begun at stops = (at, no-escape byte stops)
+wrong-escape look byte Code at stops = (Code, at, tt, no-code byte stops)
+wrong-escape look byte CodeD at stops = by_digit (is_hex byte) refl
+  where
+    by_digit : (b : Bool) → is_hex byte ≡ b → Says (cond b HalfPair HexDigit) look byte
+    by_digit true digit = (CodeD, at, tt, stops)
+    by_digit false other = (CodeD, at, tt, other)
+wrong-escape look byte (Digits left) at stops = (Digits left, at, tt, no-hex (digits_behind left) byte stops)
+wrong-escape look byte (FirstHalf left) at stops = (FirstHalf left, at, tt, no-hex (half_behind left) byte stops)
+wrong-escape look byte Pair at stops = (Pair, at, tt, stops)
+wrong-escape look byte PairBackslash at stops = (PairBackslash, at, tt, stops)
+wrong-escape look byte PairCode at stops = (PairCode, at, tt, stops)
+wrong-escape look byte PairCodeD at stops = (PairCodeD, at, tt, stops)
+
+escape-says : (look : Look) (byte : ℕ) (mistake : Mistake) (seen : EscapeState) → look.standing ≡ InEscape seen
+    → escape_mistake seen (escape_behind seen byte) byte ≡ Some mistake → Says mistake look byte
+escape-says look byte mistake seen at e = by_next (escape_behind seen byte) refl e
+  where
+    by_next : (next : Option LineState) → escape_behind seen byte ≡ next → escape_mistake seen next byte ≡ Some mistake → Says mistake look byte
+    by_next (Some next) goes h = absurd (cc)
+    by_next None stops h = says (wrong_escape seen byte) mistake look byte h (wrong-escape look byte seen at stops)
+
 -- what is wrong with a byte is true of it
 says-at : (look : Look) (byte : ℕ) (mistake : Mistake) → mistake_at look byte ≡ Some mistake → Says mistake look byte
 says-at look byte mistake e = by_standing look.standing refl e
@@ -124,15 +203,12 @@ says-at look byte mistake e = by_standing look.standing refl e
     in_string true is h = says Control mistake look byte h is
     in_string false is h = absurd (cc)
 
-    behind_backslash : look.standing ≡ BehindBackslash → (b : Bool) → is_escape byte ≡ b → cond (not b) (Some Escape) None ≡ Some mistake → Says mistake look byte
-    behind_backslash at true is h = absurd (cc)
-    behind_backslash at false is h = says Escape mistake look byte h (at, is)
-
     by_standing : (standing : LineState) → look.standing ≡ standing → mistake_by standing look byte ≡ Some mistake → Says mistake look byte
     by_standing Outside at h = outside-says look byte mistake (subst IsOutside (sym at) tt) h
     by_standing InWord at h = in_word (is_of_word byte) (subst IsOutside (sym at) tt) h
+    by_standing (InNumber seen) at h = number-says look byte mistake seen at h
     by_standing InString at h = in_string (is_control byte) refl h
-    by_standing BehindBackslash at h = behind_backslash at (is_escape byte) refl h
+    by_standing (InEscape seen) at h = escape-says look byte mistake seen at h
 
 -- ---- the bytes of a line
 
@@ -163,8 +239,9 @@ true-ending look k = by_standing look.standing refl
     by_standing : (standing : LineState) → look.standing ≡ standing → IsTrueFrom look k [] (ending_by standing look.depth)
     by_standing Outside at = by_depth (nat_lt 0 look.depth) refl
     by_standing InWord at = by_depth (nat_lt 0 look.depth) refl
+    by_standing (InNumber seen) at = by_depth (nat_lt 0 look.depth) refl
     by_standing InString at = (tt, subst IsInString (sym at) tt)
-    by_standing BehindBackslash at = (tt, subst IsInString (sym at) tt)
+    by_standing (InEscape seen) at = (tt, subst IsInString (sym at) tt)
 
 true-from : (look : Look) (k : ℕ) (bytes : List ℕ) → IsTrueFrom look k bytes (broken_from look k bytes)
 true-from look k [] = true-ending look k

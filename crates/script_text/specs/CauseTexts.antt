@@ -3,7 +3,7 @@ use Rattle.std.specs.Prelude.{ℕ, List, ◌++◌, codes, decimal}
 use Rattle.script_text.specs.declared.causes.Cause.{Cause}
 use Rattle.script_text.specs.declared.causes.Cause.TheVariants.{BlankLine, ByteOrderMark, TooDeep, NotUtf8, NoJsonAt, EndsInString, EndsInValue, NotJson, UnknownKey, MissingKey, SurplusKey, NoSuchForm, WrongValue, WrongRectangle, MissingMask, LaterVersion, NotHere, EndsInsideTurn, NoLine}
 use Rattle.script_text.specs.declared.causes.mistakes.Mistake.{Mistake}
-use Rattle.script_text.specs.declared.causes.mistakes.Mistake.TheVariants.{Comment, SingleQuote, NoNumber, NumberStart, BareWord, Control, Escape, TrailingComma, MissingComma, StrayColon, NoValue, BehindValue}
+use Rattle.script_text.specs.declared.causes.mistakes.Mistake.TheVariants.{Comment, SingleQuote, NoNumber, NumberStart, LeadingZero, WrongNumber, BareWord, Control, Escape, HexDigit, HalfPair, TrailingComma, MissingComma, StrayColon, NoValue, BehindValue}
 use Rattle.script_text.specs.declared.causes.keys.Wanted.{Wanted}
 use Rattle.script_text.specs.declared.causes.keys.Wanted.TheVariants.{Whole, Caller, Turn, Sides, Classes, Rectangles, ClassName, TwoDecimals, ThreeDecimals, SixDecimals, NumberAndDecimal, Goal}
 use Rattle.script_text.specs.Table.{key_text}
@@ -31,9 +31,13 @@ mistake_text Comment = codes "JSON has no comments"
 mistake_text SingleQuote = codes "JSON has strings in double quotes only"
 mistake_text NoNumber = codes "JSON has no NaN, no Infinity and no None"
 mistake_text NumberStart = codes "a number must begin with a digit or a minus sign"
+mistake_text LeadingZero = codes "a number must not have a zero before its other digits"
+mistake_text WrongNumber = codes "a number must be written as 0, -1.5 or 2e3"
 mistake_text BareWord = codes "only true, false, null and numbers stand without quotes"
 mistake_text Control = codes "a control character must be written as \\u and four digits, in a string"
 mistake_text Escape = codes "a backslash in a string must stand before one of \" \\ / b f n r t u"
+mistake_text HexDigit = codes "four hexadecimal digits must stand behind \\u"
+mistake_text HalfPair = codes "a half of a surrogate pair must stand with its other half, as in \\ud83d\\ude00"
 mistake_text TrailingComma = codes "no comma may stand before a closing bracket"
 mistake_text MissingComma = codes "a comma or a colon is missing before this"
 mistake_text StrayColon = codes "a colon must stand behind a key in double quotes"

@@ -1,28 +1,25 @@
 -- What a look along a bad line, byte by byte, finds first that no JSON value has.
-use Rattle.std.specs.Prelude.{ℕ, ◌+◌, ◌-◌, ◌&&◌, ◌||◌, ◌==◌, List, [], ◌∷◌, Bool, not, nat_le, nat_lt, nat_eq, if◌then◌else◌, Option, Some, None, codes}
-use Rattle.std.specs.List.{list_any}
+use Rattle.std.specs.Prelude.{ℕ, ◌+◌, ◌-◌, ◌&&◌, ◌||◌, ◌==◌, List, [], ◌∷◌, Bool, not, nat_lt, if◌then◌else◌, Option, Some, None}
 use Rattle.json.specs.Word.{is_space}
 use Rattle.script_text.specs.declared.causes.Cause.{Cause}
 use Rattle.script_text.specs.declared.causes.Cause.TheVariants.{NoJsonAt, EndsInString, EndsInValue, NotJson}
 use Rattle.script_text.specs.declared.causes.mistakes.Look.{Look}
-use Rattle.script_text.specs.declared.causes.mistakes.LineState.{LineState}
-use Rattle.script_text.specs.declared.causes.mistakes.LineState.TheVariants.{Outside, InWord, InString, BehindBackslash}
+use Rattle.script_text.specs.declared.causes.line_states.LineState.{LineState}
+use Rattle.script_text.specs.declared.causes.line_states.LineState.TheVariants.{Outside, InWord, InNumber, InString, InEscape}
+use Rattle.script_text.specs.declared.causes.line_states.NumberState.{NumberState}
+use Rattle.script_text.specs.declared.causes.line_states.NumberState.TheVariants.{BehindMinus, BehindZero}
+use Rattle.script_text.specs.declared.causes.line_states.EscapeState.{EscapeState}
+use Rattle.script_text.specs.declared.causes.line_states.EscapeState.TheVariants.{Begun, Code, CodeD, Digits, FirstHalf, Pair, PairBackslash, PairCode, PairCodeD}
 use Rattle.script_text.specs.declared.causes.mistakes.Mistake.{Mistake}
-use Rattle.script_text.specs.declared.causes.mistakes.Mistake.TheVariants.{Comment, SingleQuote, NoNumber, NumberStart, BareWord, Control, Escape, TrailingComma, MissingComma, StrayColon, NoValue, BehindValue}
+use Rattle.script_text.specs.declared.causes.mistakes.Mistake.TheVariants.{Comment, SingleQuote, NoNumber, NumberStart, LeadingZero, WrongNumber, BareWord, Control, Escape, HexDigit, HalfPair, TrailingComma, MissingComma, StrayColon, NoValue, BehindValue}
 use Rattle.script_text.specs.Nesting.{opens, closes}
+use Rattle.script_text.specs.LineStates.{is_digit, is_of_number, is_of_word, is_hex, number_behind, is_number, escape_behind, standing_behind}
 
 -- ---- bytes
-
-abbrev pub is_digit : ℕ → Bool
-is_digit byte = nat_le 48 byte && nat_le byte 57
 
 -- a number, true, false or null may begin with the byte
 abbrev pub begins_word : ℕ → Bool
 begins_word byte = is_digit byte || byte == 45 || byte == 116 || byte == 102 || byte == 110
-
--- a number, true, false or null may have the byte
-abbrev pub is_of_word : ℕ → Bool
-is_of_word byte = is_digit byte || list_any (nat_eq byte) (codes "+-.Eaeflnrstu")
 
 -- a value may begin with the byte
 abbrev pub begins_value : ℕ → Bool
@@ -31,27 +28,12 @@ begins_value byte = opens byte || byte == 34 || begins_word byte
 abbrev pub is_control : ℕ → Bool
 is_control byte = nat_lt byte 32
 
--- the byte may stand behind a backslash in a string
-abbrev pub is_escape : ℕ → Bool
-is_escape byte = list_any (nat_eq byte) (codes "\"\\/bfnrtu")
-
 -- A value ends with the byte, if none but white space stands behind it: it is no comma, no colon and opens none. A space
 -- stands for no byte.
 abbrev pub ends_value : ℕ → Bool
 ends_value last = not (last == 32 || last == 44 || last == 58 || opens last)
 
 -- ---- what was seen
-
--- Where a look stands behind one more byte. A quote begins a string, and the next quote without a backslash before it
--- ends it.
-abbrev pub standing_outside : ℕ → LineState
-standing_outside byte = if byte == 34 then InString else (if is_of_word byte then InWord else Outside)
-
-abbrev pub standing_behind : LineState → ℕ → LineState
-standing_behind Outside byte = standing_outside byte
-standing_behind InWord byte = standing_outside byte
-standing_behind InString byte = if byte == 34 then Outside else (if byte == 92 then BehindBackslash else InString)
-standing_behind BehindBackslash byte = InString
 
 -- how many arrays and objects are open behind one more byte
 abbrev pub depth_outside : ℕ → ℕ → ℕ
@@ -60,8 +42,9 @@ depth_outside depth byte = if opens byte then depth + 1 else (if closes byte the
 abbrev pub depth_behind : LineState → ℕ → ℕ → ℕ
 depth_behind Outside depth byte = depth_outside depth byte
 depth_behind InWord depth byte = depth_outside depth byte
+depth_behind (InNumber seen) depth byte = depth_outside depth byte
 depth_behind InString depth byte = depth
-depth_behind BehindBackslash depth byte = depth
+depth_behind (InEscape seen) depth byte = depth
 
 -- what was seen, with one more byte: the last byte is the last that is no white space
 abbrev pub behind : Look → ℕ → Look
@@ -122,12 +105,40 @@ mistake_outside look byte = if is_space byte then None
     else (if begins_value byte then value_mistake look
     else Some (strange_byte byte)))))
 
+-- a byte with which a number can't go on: a digit behind a zero, a word that is no number, or another
+abbrev pub wrong_number : NumberState → ℕ → Mistake
+wrong_number BehindZero byte = if is_digit byte then LeadingZero else WrongNumber
+wrong_number BehindMinus byte = if byte == 78 || byte == 73 then NoNumber else WrongNumber
+wrong_number seen byte = WrongNumber
+
+-- in a number, with how it goes on: where it can't, it is wrong, or ends before the byte
+abbrev pub number_mistake : NumberState → Option NumberState → Look → ℕ → Option Mistake
+number_mistake seen (Some next) look byte = None
+number_mistake seen None look byte = if is_of_number byte || not (is_number seen) then Some (wrong_number seen byte) else mistake_outside look byte
+
+-- a byte with which an escape can't go on
+abbrev pub wrong_escape : EscapeState → ℕ → Mistake
+wrong_escape Begun byte = Escape
+wrong_escape Code byte = HexDigit
+wrong_escape CodeD byte = if is_hex byte then HalfPair else HexDigit
+wrong_escape (Digits left) byte = HexDigit
+wrong_escape (FirstHalf left) byte = HexDigit
+wrong_escape Pair byte = HalfPair
+wrong_escape PairBackslash byte = HalfPair
+wrong_escape PairCode byte = HalfPair
+wrong_escape PairCodeD byte = HalfPair
+
+abbrev pub escape_mistake : EscapeState → Option LineState → ℕ → Option Mistake
+escape_mistake seen (Some next) byte = None
+escape_mistake seen None byte = Some (wrong_escape seen byte)
+
 -- what is wrong with a byte behind what was seen
 abbrev pub mistake_by : LineState → Look → ℕ → Option Mistake
 mistake_by Outside look byte = mistake_outside look byte
 mistake_by InWord look byte = if is_of_word byte then None else mistake_outside look byte
+mistake_by (InNumber seen) look byte = number_mistake seen (number_behind seen byte) look byte
 mistake_by InString look byte = where_true (is_control byte) Control
-mistake_by BehindBackslash look byte = where_true (not (is_escape byte)) Escape
+mistake_by (InEscape seen) look byte = escape_mistake seen (escape_behind seen byte) byte
 
 abbrev pub mistake_at : Look → ℕ → Option Mistake
 mistake_at look byte = mistake_by look.standing look byte
@@ -137,8 +148,9 @@ mistake_at look byte = mistake_by look.standing look byte
 abbrev pub ending_by : LineState → ℕ → Cause
 ending_by Outside depth = if nat_lt 0 depth then EndsInValue else NotJson
 ending_by InWord depth = if nat_lt 0 depth then EndsInValue else NotJson
+ending_by (InNumber seen) depth = if nat_lt 0 depth then EndsInValue else NotJson
 ending_by InString depth = EndsInString
-ending_by BehindBackslash depth = EndsInString
+ending_by (InEscape seen) depth = EndsInString
 
 -- where no byte is a mistake: how the line ends
 abbrev pub ending : Look → Cause

@@ -1,17 +1,22 @@
 -- What a cause says of the bytes of a line that has no reading.
-use Rattle.std.specs.Prelude.{ℕ, ◌≡◌, ◌+◌, ◌<◌, ◌==◌, ◌||◌, ⊤, List, [], ◌∷◌, ◌++◌, length, IsTrue, IsFalse, None}
+use Rattle.std.specs.Prelude.{ℕ, ◌≡◌, ◌+◌, ◌<◌, ◌==◌, ◌||◌, not, ⊤, List, [], ◌∷◌, ◌++◌, length, IsTrue, IsFalse, None}
 use Rattle.std.specs.Str.{IsValidUpTo}
 use Rattle.json.specs.Word.{is_space}
 use Rattle.script_text.specs.declared.causes.Cause.{Cause}
 use Rattle.script_text.specs.declared.causes.Cause.TheVariants.{BlankLine, ByteOrderMark, TooDeep, NotUtf8, NoJsonAt, EndsInString, EndsInValue, NotJson}
 use Rattle.script_text.specs.declared.causes.mistakes.Look.{Look}
-use Rattle.script_text.specs.declared.causes.mistakes.LineState.{LineState}
-use Rattle.script_text.specs.declared.causes.mistakes.LineState.TheVariants.{Outside, InWord, InString, BehindBackslash}
+use Rattle.script_text.specs.declared.causes.line_states.LineState.{LineState}
+use Rattle.script_text.specs.declared.causes.line_states.LineState.TheVariants.{Outside, InWord, InNumber, InString, InEscape}
+use Rattle.script_text.specs.declared.causes.line_states.NumberState.{NumberState}
+use Rattle.script_text.specs.declared.causes.line_states.NumberState.TheVariants.{BehindZero}
+use Rattle.script_text.specs.declared.causes.line_states.EscapeState.{EscapeState}
+use Rattle.script_text.specs.declared.causes.line_states.EscapeState.TheVariants.{Begun, Code, CodeD, Digits, FirstHalf, Pair, PairBackslash, PairCode, PairCodeD}
 use Rattle.script_text.specs.declared.causes.mistakes.Mistake.{Mistake}
-use Rattle.script_text.specs.declared.causes.mistakes.Mistake.TheVariants.{Comment, SingleQuote, NoNumber, NumberStart, BareWord, Control, Escape, TrailingComma, MissingComma, StrayColon, NoValue, BehindValue}
+use Rattle.script_text.specs.declared.causes.mistakes.Mistake.TheVariants.{Comment, SingleQuote, NoNumber, NumberStart, LeadingZero, WrongNumber, BareWord, Control, Escape, HexDigit, HalfPair, TrailingComma, MissingComma, StrayColon, NoValue, BehindValue}
 use Rattle.script_text.specs.Nesting.{closes}
 use Rattle.script_text.specs.Causes.{is_blank, has_mark, is_too_deep}
-use Rattle.script_text.specs.Mistakes.{at_start, behind, look_along, mistake_at, begins_value, ends_value, is_control, is_escape}
+use Rattle.script_text.specs.LineStates.{is_digit, is_of_number, is_escape, is_hex, number_behind, is_number, escape_behind}
+use Rattle.script_text.specs.Mistakes.{at_start, behind, look_along, mistake_at, begins_value, ends_value, is_control}
 
 -- none of these bytes is a mistake behind what was seen before it
 abbrev pub HasNoMistake : Look → List ℕ → Type 0
@@ -22,21 +27,43 @@ HasNoMistake look (byte ∷ bytes) = (mistake_at look byte ≡ None) × HasNoMis
 abbrev pub IsOutside : LineState → Type 0
 IsOutside Outside = ⊤
 IsOutside InWord = ⊤
+IsOutside (InNumber seen) = ⊤
 IsOutside InString = ⊥
-IsOutside BehindBackslash = ⊥
+IsOutside (InEscape seen) = ⊥
+
+-- a digit of a code follows, behind `\u`
+abbrev pub WantsDigit : EscapeState → Type 0
+WantsDigit Code = ⊤
+WantsDigit CodeD = ⊤
+WantsDigit (Digits left) = ⊤
+WantsDigit (FirstHalf left) = ⊤
+WantsDigit other = ⊥
+
+-- a half of a surrogate pair may be seen
+abbrev pub IsOfPair : EscapeState → Type 0
+IsOfPair CodeD = ⊤
+IsOfPair Pair = ⊤
+IsOfPair PairBackslash = ⊤
+IsOfPair PairCode = ⊤
+IsOfPair PairCodeD = ⊤
+IsOfPair other = ⊥
 
 -- What a mistake says of a byte, behind what was seen of the bytes before it: the slash or number sign of a comment, the
 -- single quote, the letter N or I, the plus sign or point stand outside strings. So do the brackets, commas, colons and
 -- values: `last` is the last byte before them that is no white space, and `depth` the number of arrays and objects that
--- are open.
+-- are open. Of a number and an escape it says that what was seen of it can't go on with the byte.
 abbrev pub Says : Mistake → Look → ℕ → Type 0
 Says Comment look byte = IsOutside look.standing × IsTrue (byte == 47 || byte == 35)
 Says SingleQuote look byte = IsOutside look.standing × (byte ≡ 39)
 Says NoNumber look byte = IsOutside look.standing × IsTrue (byte == 78 || byte == 73)
 Says NumberStart look byte = IsOutside look.standing × IsTrue (byte == 43 || byte == 46)
+Says LeadingZero look byte = (look.standing ≡ InNumber BehindZero) × IsTrue (is_digit byte)
+Says WrongNumber look byte = (seen : NumberState) × (look.standing ≡ InNumber seen) × (number_behind seen byte ≡ None) × IsTrue (is_of_number byte || not (is_number seen))
 Says BareWord look byte = IsOutside look.standing × IsFalse (begins_value byte) × IsFalse (closes byte) × IsFalse (is_space byte)
 Says Control look byte = IsTrue (is_control byte)
-Says Escape look byte = (look.standing ≡ BehindBackslash) × IsFalse (is_escape byte)
+Says Escape look byte = (look.standing ≡ InEscape Begun) × IsFalse (is_escape byte)
+Says HexDigit look byte = (seen : EscapeState) × (look.standing ≡ InEscape seen) × WantsDigit seen × IsFalse (is_hex byte)
+Says HalfPair look byte = (seen : EscapeState) × (look.standing ≡ InEscape seen) × IsOfPair seen × (escape_behind seen byte ≡ None)
 Says TrailingComma look byte = IsOutside look.standing × IsTrue (closes byte) × (look.last ≡ 44)
 Says MissingComma look byte = IsOutside look.standing × IsTrue (begins_value byte) × IsTrue (ends_value look.last) × (0 < look.depth)
 Says StrayColon look byte = IsOutside look.standing × (byte ≡ 58) × IsFalse (look.last == 34)
@@ -61,8 +88,9 @@ IsTextUpTo line place = (n : ℕ) × (place ≡ n + 1) × IsValidUpTo line n
 abbrev pub IsInString : LineState → Type 0
 IsInString Outside = ⊥
 IsInString InWord = ⊥
+IsInString (InNumber seen) = ⊥
 IsInString InString = ⊤
-IsInString BehindBackslash = ⊤
+IsInString (InEscape seen) = ⊤
 
 -- what the cause of a line without a reading says of its bytes
 abbrev pub IsTrueOfBytes : List ℕ → Cause → Type 0

@@ -4,6 +4,7 @@ ghost use Rattle.serde_json.specs.View.{view};
 ghost use Rattle.script_text.specs.Causes as why;
 
 mod keys;
+mod line_states;
 mod mistakes;
 mod strange_keys;
 pub(crate) mod wrong_values;

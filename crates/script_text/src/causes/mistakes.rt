@@ -1,8 +1,12 @@
 //! A second look along a line that has no reading: the first byte that stands where no JSON value has one.
 ghost use Rattle.std.specs.Prelude.{◌≡◌, ◌≤◌, ◌<◌, ◌+◌, ◌^◌};
 ghost use Rattle.script_text.specs.Causes as why;
+ghost use Rattle.script_text.specs.LineStates as state;
 ghost use Rattle.script_text.specs.Mistakes as slip;
 
+use crate::causes::line_states::{
+    EscapeState, LineState, NumberState, is_digit, is_hex, is_of_number, is_of_word,
+};
 use crate::causes::{Cause, is_white};
 use crate::nesting::{closes, opens};
 use std::fmt;
@@ -18,12 +22,20 @@ pub enum Mistake {
     NoNumber,
     /// A number begins with a plus sign or a point.
     NumberStart,
+    /// A digit behind a zero with which a number begins.
+    LeadingZero,
+    /// A number can't go on with the byte, or ends before it without a digit that it must have.
+    WrongNumber,
     /// A word without quotes that is not `true`, `false` or `null`, and no number.
     BareWord,
     /// A control character that is not white space, or any in a string.
     Control,
     /// A backslash in a string before a byte that no escape has.
     Escape,
+    /// A byte in the place of a hexadecimal digit of an escape.
+    HexDigit,
+    /// A half of a surrogate pair without its other half.
+    HalfPair,
     /// A bracket or brace closes behind a comma.
     TrailingComma,
     /// A value or a key begins behind a value.
@@ -59,12 +71,18 @@ impl Mistake {
             Mistake::SingleQuote => "JSON has strings in double quotes only",
             Mistake::NoNumber => "JSON has no NaN, no Infinity and no None",
             Mistake::NumberStart => "a number must begin with a digit or a minus sign",
+            Mistake::LeadingZero => "a number must not have a zero before its other digits",
+            Mistake::WrongNumber => "a number must be written as 0, -1.5 or 2e3",
             Mistake::BareWord => "only true, false, null and numbers stand without quotes",
             Mistake::Control => {
                 "a control character must be written as \\u and four digits, in a string"
             }
             Mistake::Escape => {
                 "a backslash in a string must stand before one of \" \\ / b f n r t u"
+            }
+            Mistake::HexDigit => "four hexadecimal digits must stand behind \\u",
+            Mistake::HalfPair => {
+                "a half of a surrogate pair must stand with its other half, as in \\ud83d\\ude00"
             }
             Mistake::TrailingComma => "no comma may stand before a closing bracket",
             Mistake::MissingComma => "a comma or a colon is missing before this",
@@ -73,15 +91,6 @@ impl Mistake {
             Mistake::BehindValue => "a line has one value, and this stands behind it",
         }
     }
-}
-
-/// Where a look along a line stands: outside strings, in a word outside them, in a string, or behind a backslash in one.
-#[derive(Clone, Copy)]
-pub(crate) enum LineState {
-    Outside,
-    InWord,
-    InString,
-    BehindBackslash,
 }
 
 /// What a look along a line has seen.
@@ -119,8 +128,8 @@ fn ending(look: Look) -> Cause
     ensures { result ≡ slip.ending look }
 {
     match look.standing {
-        LineState::InString | LineState::BehindBackslash => Cause::EndsInString,
-        LineState::Outside | LineState::InWord => {
+        LineState::InString | LineState::InEscape(_) => Cause::EndsInString,
+        LineState::Outside | LineState::InWord | LineState::InNumber(_) => {
             if look.depth > 0 {
                 Cause::EndsInValue
             } else {
@@ -137,36 +146,9 @@ fn behind(look: Look, byte: u8) -> Look
     ensures depth { result.depth ≤ look.depth + 1 }
 {
     Look {
-        standing: standing_behind(look.standing, byte),
+        standing: look.standing.behind(byte),
         last: if is_white(byte) { look.last } else { byte },
         depth: depth_behind(look, byte),
-    }
-}
-
-/// Where a look stands behind one more byte.
-fn standing_behind(standing: LineState, byte: u8) -> LineState
-    ensures { result ≡ slip.standing_behind standing byte }
-{
-    match standing {
-        LineState::Outside | LineState::InWord => {
-            if byte == b'"' {
-                LineState::InString
-            } else if is_of_word(byte) {
-                LineState::InWord
-            } else {
-                LineState::Outside
-            }
-        }
-        LineState::InString => {
-            if byte == b'"' {
-                LineState::Outside
-            } else if byte == b'\\' {
-                LineState::BehindBackslash
-            } else {
-                LineState::InString
-            }
-        }
-        LineState::BehindBackslash => LineState::InString,
     }
 }
 
@@ -177,7 +159,7 @@ fn depth_behind(look: Look, byte: u8) -> u64
     ensures step { result ≤ look.depth + 1 }
 {
     match look.standing {
-        LineState::Outside | LineState::InWord => {
+        LineState::Outside | LineState::InWord | LineState::InNumber(_) => {
             if opens(byte) {
                 look.depth + 1
             } else if closes(byte) {
@@ -186,7 +168,7 @@ fn depth_behind(look: Look, byte: u8) -> u64
                 look.depth
             }
         }
-        LineState::InString | LineState::BehindBackslash => look.depth,
+        LineState::InString | LineState::InEscape(_) => look.depth,
     }
 }
 
@@ -203,8 +185,59 @@ fn mistake_at(look: Look, byte: u8) -> Option<Mistake>
                 mistake_outside(look, byte)
             }
         }
+        LineState::InNumber(number) => number_mistake(number, look, byte),
         LineState::InString => where_true(is_control(byte), Mistake::Control),
-        LineState::BehindBackslash => where_true(!is_escape(byte), Mistake::Escape),
+        LineState::InEscape(escape) => match escape.behind(byte) {
+            Some(_) => None,
+            None => Some(wrong_escape(escape, byte)),
+        },
+    }
+}
+
+/// The same in a number.
+fn number_mistake(number: NumberState, look: Look, byte: u8) -> Option<Mistake>
+    ensures { result ≡ slip.number_mistake number (state.number_behind number byte) look byte }
+{
+    if number.behind(byte).is_some() {
+        None
+    } else if is_of_number(byte) || !number.is_whole() {
+        Some(wrong_number(number, byte))
+    } else {
+        mistake_outside(look, byte)
+    }
+}
+
+/// What is wrong with a byte with which a number can't go on.
+fn wrong_number(number: NumberState, byte: u8) -> Mistake
+    ensures { result ≡ slip.wrong_number number byte }
+{
+    match number {
+        NumberState::BehindZero if is_digit(byte) => Mistake::LeadingZero,
+        NumberState::BehindMinus if byte == b'N' || byte == b'I' => Mistake::NoNumber,
+        _ => Mistake::WrongNumber,
+    }
+}
+
+/// What is wrong with a byte with which an escape can't go on.
+fn wrong_escape(escape: EscapeState, byte: u8) -> Mistake
+    ensures { result ≡ slip.wrong_escape escape byte }
+{
+    match escape {
+        EscapeState::Begun => Mistake::Escape,
+        EscapeState::Code | EscapeState::Digits { .. } | EscapeState::FirstHalf { .. } => {
+            Mistake::HexDigit
+        }
+        EscapeState::CodeD => {
+            if is_hex(byte) {
+                Mistake::HalfPair
+            } else {
+                Mistake::HexDigit
+            }
+        }
+        EscapeState::Pair
+        | EscapeState::PairBackslash
+        | EscapeState::PairCode
+        | EscapeState::PairCodeD => Mistake::HalfPair,
     }
 }
 
@@ -319,13 +352,6 @@ fn begins_value(byte: u8) -> bool
     opens(byte) || byte == b'"' || begins_word(byte)
 }
 
-/// Whether the byte is a digit.
-fn is_digit(byte: u8) -> bool
-    ensures { result ≡ slip.is_digit byte }
-{
-    b'0' <= byte && byte <= b'9'
-}
-
 /// Whether a number or `true`, `false` or `null` may begin with the byte.
 fn begins_word(byte: u8) -> bool
     ensures { result ≡ slip.begins_word byte }
@@ -333,23 +359,9 @@ fn begins_word(byte: u8) -> bool
     is_digit(byte) || byte == b'-' || byte == b't' || byte == b'f' || byte == b'n'
 }
 
-/// Whether a number or `true`, `false` or `null` may have the byte.
-fn is_of_word(byte: u8) -> bool
-    ensures { result ≡ slip.is_of_word byte }
-{
-    is_digit(byte) || b"+-.Eaeflnrstu".contains(&byte)
-}
-
 /// Whether the byte is a control character.
 fn is_control(byte: u8) -> bool
     ensures { result ≡ slip.is_control byte }
 {
     byte < b' '
-}
-
-/// Whether an escape in a string has the byte behind its backslash.
-fn is_escape(byte: u8) -> bool
-    ensures { result ≡ slip.is_escape byte }
-{
-    b"\"\\/bfnrtu".contains(&byte)
 }
