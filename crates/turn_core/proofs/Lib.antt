@@ -6,6 +6,7 @@ pub mod OneNote
 pub mod NotedPaths
 pub mod OutOfShapes
 pub mod Searchable
+pub mod WantedWalks
 pub mod KeptFields
 pub mod TurnByTurn
 pub mod TurnNotes

@@ -3,6 +3,7 @@ pub mod NamedGoals
 pub mod Solving
 pub mod Notes
 pub mod Solvers
+pub mod Within
 pub mod Turns
 pub mod Given
 pub mod ReadyTurns

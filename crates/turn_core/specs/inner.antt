@@ -4,3 +4,4 @@ pub mod ReplyLists
 pub mod EditedTurns
 pub mod Searching
 pub mod Asked
+pub mod Wanted

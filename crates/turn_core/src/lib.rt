@@ -64,6 +64,7 @@ mod journals;
 mod last_fields;
 pub mod laws;
 mod named_goals;
+mod near_answers;
 mod one_threads;
 mod ready_turns;
 mod reply_lists;
@@ -78,6 +79,7 @@ pub use answerers::{Answerer, NotedAnswers, NotedTurn, noted_turn};
 pub use journals::{answer_turn, one_thread};
 pub use jump_search::Pool;
 pub use named_goals::goal_of;
+pub use near_answers::solve_within;
 pub use one_threads::OneThread;
 pub use posts::{
     AllReplies, Answer, Answers, CallerReplies, FlowLine, FlowSummary, Jobs, Journal, Note, Noted,

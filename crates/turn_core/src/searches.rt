@@ -65,7 +65,7 @@ impl<'a> TargetSearch<'a> {
 
     /// What the search goes by where it knows more than octile distances: the way out of the room that the goal leaves about
     /// the start, the way out of the goal's shape, or tables of landmarks.
-    fn ahead(&self) -> Option<TargetEstimate<'a>>
+    pub(crate) fn ahead(&self) -> Option<TargetEstimate<'a>>
         requires { CanFind self.now.version.now self.now.class self.now.start self.now.target.now }
         ensures { IfSome result (λ ahead. IsEstimate (passes_of self.now.version.now self.now.class) (hit_by self.now.target.now)
             (framed_by self.now.target.now) self.now.version.now.map.size (least_ahead ahead)) }

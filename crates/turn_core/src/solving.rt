@@ -241,7 +241,7 @@ impl<'a> Solver<'a> {
 
 /// The start cell of a point on the map. None exactly where no cell is passable for the class, which the version tells
 /// without a search.
-fn start_cell(version: &Version, class: Class, x: Fixed, z: Fixed) -> Option<Cell>
+pub(crate) fn start_cell(version: &Version, class: Class, x: Fixed, z: Fixed) -> Option<Cell>
     requires class { class < length version.now.map.classes }
     requires column { IsOnAxis version.now.map.size.w x }
     requires row { IsOnAxis version.now.map.size.h z }
@@ -256,13 +256,18 @@ fn start_cell(version: &Version, class: Class, x: Fixed, z: Fixed) -> Option<Cel
 
 /// The class that a request names, and the cell in which its point lies.
 #[derive(Clone, Copy)]
-struct Asked {
-    class: Class,
-    cell: Cell,
+pub(crate) struct Asked {
+    pub class: Class,
+    pub cell: Cell,
 }
 
 /// The class of a name, and the cell that holds the point (`x`, `z`); or why what is asked of them is refused.
-fn asked_at(version: &Version, name: &ClassName, x: Fixed, z: Fixed) -> Result<Asked, Refusal>
+pub(crate) fn asked_at(
+    version: &Version,
+    name: &ClassName,
+    x: Fixed,
+    z: Fixed,
+) -> Result<Asked, Refusal>
     ensures asked { IfOk result (λ asked. IsAskedAt version.now.map name.now x z asked.class asked.cell) }
     ensures refused { IfErr result (IsRefusedAt version.now.map name.now x z) }
 {
@@ -276,7 +281,7 @@ fn asked_at(version: &Version, name: &ClassName, x: Fixed, z: Fixed) -> Result<A
 }
 
 /// The answer to a region query of a class by its name, at the point (`x`, `z`).
-fn region_asked(version: &Version, name: &ClassName, x: Fixed, z: Fixed) -> Answer
+pub(crate) fn region_asked(version: &Version, name: &ClassName, x: Fixed, z: Fixed) -> Answer
     ensures { IsAnswerAt (class_named version.now.map name.now) (is_on_map version.now.map.size x z)
         (λ class. IsRegionAt (passable_at version.now.map version.now.standing class) x z) result }
 {
