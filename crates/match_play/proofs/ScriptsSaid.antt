@@ -10,22 +10,25 @@ use Rattle.script_text.specs.declared.items.ScriptItem.{ScriptItem}
 use Rattle.script_text.specs.declared.items.ScriptItem.TheVariants as item
 use Rattle.script_text.specs.declared.parts.Part.TheVariants.{InBase}
 use Rattle.script_text.specs.declared.parts.Rules.{Rules}
+use Rattle.script_text.specs.declared.causes.Cause.{Cause}
+use Rattle.script_text.specs.Causes.{next_cause, stop_cause}
 use Rattle.script_text.specs.Forms.{map_of}
 use Rattle.script_text.specs.Pushed.{item_of, EndTold, EndsWith, KeepsRules, KeepsTo, PushTold}
-use Rattle.script_text.specs.Reader.{Held, rules_at, stuck_after, unread}
+use Rattle.script_text.specs.Reader.{Held, HoldsRefused, held_cause, rules_at, stuck_after, unread}
 use Rattle.script_text.specs.Script.{Item, begins, adds_base, ends_turn, Place, beginning, Stop, whole_input, too_long, bad_line, Walk, arrived, stuck, chain, accept, counted, finish, is_long, last_line, map_after, map_after_item, map_line, no_posts, reading, reading_of, rules_of, turns_of, walk}
 use Rattle.script_text.proofs.ReadCalls.{map_after-append, turns_of-append}
 use Rattle.script_text.proofs.ReadWalk.{chain-assoc}
 use Rattle.match_play.specs.declared.scripts.SaidSoFar.{SaidSoFar}
-use Rattle.match_play.specs.Scripts.{IsTurnOn, RefusesScript, SaysMatch}
-use Rattle.match_play.specs.inner.Reading.{AreTurnsOn, FitsMap, GoesWith, HasRead, HasReadAll, fault_in}
+use Rattle.match_play.specs.declared.faults.MatchFault.TheVariants as fault
+use Rattle.match_play.specs.Scripts.{IsBadLineOf, IsTurnOn, RefusesScript, SaysMatch}
+use Rattle.match_play.specs.inner.Reading.{AreTurnsOn, FitsMap, GoesWith, HasRead, HasReadAll, HoldsCause, fault_in}
 
 -- ---- nothing was read
 
 pub read_nothing : (script : List ℕ) (held : Held) (said : SaidSoFar) → held ≡ unread → said ≡ record { map = None; journal = [] } → HasRead script held script said
 read_nothing script held said h s =
     subst (λ (x : Held). HasRead script x script said) (sym h)
-    (subst (HasRead script unread script) (sym s) (record { items = []; goes = refl; says_map = refl; says_turns = refl }))
+    (subst (HasRead script unread script) (sym s) (record { items = []; goes = refl; cause = refl; says_map = refl; says_turns = refl }))
 
 pub with_nothing : (held : Held) (said : SaidSoFar) → held ≡ unread → said ≡ record { map = None; journal = [] } → GoesWith held said
 with_nothing held said h s =
@@ -45,6 +48,14 @@ more_items items said next i map turns says = (
   turns_of-append items (item_of i ∷ []) ∙ (ap (λ (t : List (List (List Post))). t ++ turns_of (item_of i ∷ [])) turns ∙ sym says.journal),
 )
 
+-- the cause with no bytes behind
+with_more : (held : Held) (bytes : List ℕ) → stop_cause (held.bytes ++ bytes) held.place ≡ stop_cause (held.bytes ++ (bytes ++ [])) held.place
+with_more held bytes = ap (λ (l : List ℕ). stop_cause (held.bytes ++ l) held.place) (sym (append-nil bytes))
+
+-- the cause of what is held, with nothing behind
+of_held : (held : Held) → stop_cause (held.bytes ++ []) held.place ≡ stop_cause held.bytes held.place
+of_held held = ap (λ (l : List ℕ). stop_cause l held.place) (append-nil held.bytes)
+
 pub read_item : (script : List ℕ) (old new : Held) (before left : List ℕ) (said next : SaidSoFar) (i : ScriptItem) → HasRead script old before said
     → PushTold old new before left (Ok (Some i)) → next.map ≡ map_after_item said.map (item_of i) → next.journal ≡ said.journal ++ turns_of (item_of i ∷ [])
     → HasRead script new left next
@@ -59,6 +70,7 @@ read_item script old new before left said next i h told map journal =
       items = h.items ++ item_of i ∷ [];
       goes = h.goes ∙ (ap (λ (w : Walk). chain (arrived h.items old.place) (λ q. w)) here
           ∙ ap (λ (l : List Item). record { items = l; ends = behind.ends }) (sym (append_assoc h.items (item_of i ∷ []) behind.items)));
+      cause = h.cause ∙ (with_more old before ∙ ((told []).cause ∙ ap (λ (l : List ℕ). stop_cause (new.bytes ++ l) new.place) (append-nil left)));
       says_map = more.0;
       says_turns = more.1;
     }
@@ -114,6 +126,7 @@ read_lines script old new before left said h told none =
     record {
       items = h.items;
       goes = h.goes ∙ ap (λ (w : Walk). chain (arrived h.items old.place) (λ q. w)) here;
+      cause = h.cause ∙ (with_more old before ∙ ((told []).cause ∙ ap (λ (l : List ℕ). stop_cause (new.bytes ++ l) new.place) (append-nil left ∙ none)));
       says_map = h.says_map;
       says_turns = h.says_turns;
     }
@@ -157,6 +170,22 @@ rest_stops script old new said (met.TooLong n) h told =
 rest_stops script old new said met.ReadFault h told = tt
 rest_stops script old new said met.NoMemory h told = tt
 
+-- ---- what is held at a bad line
+
+pub lines_hold : (script : List ℕ) (old new : Held) (before left : List ℕ) (said : SaidSoFar) (why : ScriptFault) → HasRead script old before said
+    → PushTold old new before left (Err why) → HoldsRefused new why → HoldsCause script new (fault_in why)
+lines_hold script old new before left said (met.BadLine n) h told bad = (h.cause ∙ (with_more old before ∙ (told []).cause), bad.cause)
+lines_hold script old new before left said (met.TooLong n) h told bad = tt
+lines_hold script old new before left said met.ReadFault h told bad = tt
+lines_hold script old new before left said met.NoMemory h told bad = tt
+
+pub rest_holds : (script : List ℕ) (old new : Held) (said : SaidSoFar) (why : ScriptFault) → HasRead script old [] said
+    → EndTold old new (Err why) → HoldsRefused new why → HoldsCause script new (fault_in why)
+rest_holds script old new said (met.BadLine n) h told bad = (h.cause ∙ (of_held old ∙ told.cause), bad.cause)
+rest_holds script old new said (met.TooLong n) h told bad = tt
+rest_holds script old new said met.ReadFault h told bad = tt
+rest_holds script old new said met.NoMemory h told bad = tt
+
 -- ---- what stands behind the last newline
 
 pub rest_item : (script : List ℕ) (old new : Held) (said next : SaidSoFar) (i : ScriptItem) → HasRead script old [] said → EndsWith old new (item_of i)
@@ -171,6 +200,7 @@ rest_item script old new said next i h e map journal =
       goes = h.goes ∙ (ap (λ (w : Walk). chain (arrived h.items old.place) (λ q. w)) (alone old (chain (arrived (item_of i ∷ []) new.place) finish) e.same)
           ∙ (ap (λ (l : List Item). record { items = l; ends = behind.ends }) (sym (append_assoc h.items (item_of i ∷ []) behind.items))
           ∙ ap (λ (bytes : List ℕ). chain (arrived (h.items ++ item_of i ∷ []) new.place) (λ q. reading bytes q)) (sym none)));
+      cause = h.cause ∙ (of_held old ∙ (e.cause ∙ (ap (next_cause new.place) e.nothing ∙ ap (λ (bytes : List ℕ). stop_cause bytes new.place) (sym none))));
       says_map = more.0;
       says_turns = more.1;
     }
@@ -230,3 +260,15 @@ says_match script held said m h goes is = record {
   reads = record { items = h.items; whole = h.whole; says_map = h.says_map ∙ is; says_turns = h.says_turns };
   turns = turns_on said.map m said.journal is goes.turns;
 }
+
+-- ---- the bad line of a script
+
+pub whole_is_good : (script : List ℕ) (said : SaidSoFar) → HasReadAll script said → IsBadLineOf script None
+whole_is_good script said h n is = let ends = ap (λ (w : Walk). w.ends) h.whole in absurd (cc)
+
+pub long_is_not_bad : (script : List ℕ) (number : ℕ) → RefusesScript script (fault.TooLong number) → IsBadLineOf script None
+long_is_not_bad script number long n is = absurd (cc)
+
+pub bad_line_is : (script : List ℕ) (held : Held) (number : ℕ) (cause : Cause) → RefusesScript script (fault.BadLine number)
+    → HoldsCause script held (fault.BadLine number) → Some cause ≡ held_cause held → IsBadLineOf script (Some (record { number = number; cause = cause }))
+bad_line_is script held number cause stops holds is = (stops, holds.0 ∙ sym is)

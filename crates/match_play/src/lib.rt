@@ -48,5 +48,5 @@ pub use posted::{EndedTurn, PostedMatch};
 pub use posts::Report;
 pub use replayed::{OpenedMatch, open_script};
 pub use saved::snapshot;
-pub use scripts::{SavedMatch, read_script};
+pub use scripts::{NumberedCause, SavedMatch, bad_line_of, read_script};
 pub use states::MatchProgress;

@@ -1,15 +1,15 @@
 //! What a whole script says.
-ghost use Rattle.std.specs.Prelude.{◌≡◌, ◌++◌, ◌∷◌, ℕ, List, [], None, Some, IfErr, IsFalse, OnOk};
+ghost use Rattle.std.specs.Prelude.{◌≡◌, ◌++◌, ◌∷◌, ℕ, List, [], None, Some, IfErr, IfOk, IsFalse, OnOk};
 ghost use Rattle.script_text.specs.Pushed.{item_of};
 ghost use Rattle.script_text.specs.Reader.{unread};
 ghost use Rattle.script_text.specs.Script.{map_after_item, turns_of};
-ghost use Rattle.match_play.specs.Scripts.{RefusesScript, SaysAs};
-ghost use Rattle.match_play.specs.inner.Reading.{FitsMap, HasRead, HasReadAll, GoesWith, fault_in};
+ghost use Rattle.match_play.specs.Scripts.{IsBadLineOf, RefusesScript, SaysAs};
+ghost use Rattle.match_play.specs.inner.Reading.{FitsMap, HasRead, HasReadAll, HoldsCause, GoesWith, fault_in};
 
 use crate::faults::MatchFault;
 use nav_types::NoMemory;
 use posts::{BaseRects, Journal, MapSpec};
-use script_text::{PushedScript, ScriptFault, ScriptItem};
+use script_text::{Cause, PushedScript, ScriptFault, ScriptItem};
 use std::alloc::Global;
 
 /// A match as its script says it: the map, and the turns on it.
@@ -17,6 +17,13 @@ use std::alloc::Global;
 pub struct SavedMatch {
     pub map: MapSpec,
     pub journal: Journal,
+}
+
+/// Why a line is bad, with its number, from 1.
+#[derive(Drop)]
+pub struct NumberedCause {
+    pub number: u64,
+    pub cause: Cause,
 }
 
 /// What the lines of a script have said so far.
@@ -32,17 +39,44 @@ pub fn read_script(alloc: Global, script: &[u8]) -> Result<SavedMatch, MatchFaul
     ensures { SaysAs script.now result }
 {
     let mut lines = PushedScript::new(alloc);
-    let mut said = SaidSoFar {
-        map: None,
-        journal: Journal::new(alloc),
-    };
-    read_lines(alloc, script, &mut lines, &mut said)?;
-    read_rest(alloc, &mut lines, &mut said)?;
-    let SaidSoFar { map, journal } = said;
+    let SaidSoFar { map, journal } = read_all(alloc, script, &mut lines)?;
     match map {
         Some(map) => Ok(SavedMatch { map, journal }),
         None => unreachable!(),
     }
+}
+
+/// The bad line at which a script stops (`IsBadLineOf`): None where it is whole, or stops at a line that is too long.
+pub fn bad_line_of(alloc: Global, script: &[u8]) -> Result<Option<NumberedCause>, NoMemory>
+    ensures { IfOk result (IsBadLineOf script.now) }
+{
+    let mut lines = PushedScript::new(alloc);
+    match read_all(alloc, script, &mut lines) {
+        Ok(_) => Ok(None),
+        Err(MatchFault::BadLine(number)) => {
+            let cause = lines.cause(alloc)?;
+            Ok(Some(NumberedCause { number, cause }))
+        }
+        Err(MatchFault::TooLong(_)) => Ok(None),
+        Err(MatchFault::Ended) | Err(MatchFault::NoMemory) => Err(NoMemory),
+    }
+}
+
+/// Reads a whole script. Where it stops at a bad line, the reader holds its cause.
+fn read_all(alloc: Global, script: &[u8], lines: &mut PushedScript) -> Result<SaidSoFar, MatchFault>
+    requires unread { lines.old ≡ unread }
+    ensures ok { IfOk result (HasReadAll script.now) }
+    ensures keeps { IfOk result (GoesWith lines.new) }
+    ensures err { IfErr result (RefusesScript script.now) }
+    ensures cause { IfErr result (HoldsCause script.now lines.new) }
+{
+    let mut said = SaidSoFar {
+        map: None,
+        journal: Journal::new(alloc),
+    };
+    read_lines(alloc, script, lines, &mut said)?;
+    read_rest(alloc, lines, &mut said)?;
+    Ok(said)
 }
 
 /// Reads the lines of a script that end with a newline.
@@ -56,6 +90,7 @@ fn read_lines(
     requires unsaid { said.old ≡ record { map = None; journal = [] } }
     ensures ok { OnOk result (HasRead script.now lines.new [] said.new) }
     ensures err { IfErr result (RefusesScript script.now) }
+    ensures cause { IfErr result (HoldsCause script.now lines.new) }
     ensures keeps { OnOk result (GoesWith lines.new said.new) }
     ensures going { OnOk result (IsFalse lines.new.failed) }
 {
@@ -79,6 +114,8 @@ fn read_rest(
     requires going { IsFalse lines.old.failed }
     ensures ok { OnOk result ((script : List ℕ) → HasRead script lines.old [] said.old → HasReadAll script said.new) }
     ensures err { IfErr result (λ fault. (script : List ℕ) → HasRead script lines.old [] said.old → RefusesScript script fault) }
+    ensures cause { IfErr result (λ fault. (script : List ℕ) → HasRead script lines.old [] said.old
+        → HoldsCause script lines.new fault) }
     ensures keeps { OnOk result (GoesWith lines.new said.new) }
 {
     'items: loop {

@@ -1,8 +1,9 @@
 use Rattle.std.proofs.Common.{ap, subst, sym}
 use Rattle.script_text.specs.Reader.{Held}
 use Rattle.match_play.specs.Scripts.{RefusesScript}
+use Rattle.match_play.specs.inner.Reading.{HoldsCause}
 use Rattle.match_play.proofs.Fits.{shorter}
-use Rattle.match_play.proofs.ScriptsSaid.{fits_next, lines_stop, read_item, read_lines, read_nothing, with_item, with_lines, with_nothing}
+use Rattle.match_play.proofs.ScriptsSaid.{fits_next, lines_hold, lines_stop, read_item, read_lines, read_nothing, with_item, with_lines, with_nothing}
 use Rattle.match_play.proofs.scripts.read_lines.Goals as goal
 
 pub items-init : goal.items-init
@@ -53,3 +54,9 @@ pub returns-in-Err-clause-err : goal.returns-in-Err-clause-err
 returns-in-Err-clause-err c =
     subst (RefusesScript c.args.script.now) (sym c.fault_in.ensures)
     (lines_stop c.args.script.now c.items.lines c.next.new.self c.items.left.now c.next.new.bytes.now c.items.said c.in-Err.fault c.items.invariant.read c.in-Err.ensures.told)
+
+pub returns-in-Err-clause-cause : goal.returns-in-Err-clause-cause
+returns-in-Err-clause-cause c =
+    subst (HoldsCause c.args.script.now c.next.new.self) (sym c.fault_in.ensures)
+    (lines_hold c.args.script.now c.items.lines c.next.new.self c.items.left.now c.next.new.bytes.now c.items.said c.in-Err.fault c.items.invariant.read
+    c.in-Err.ensures.told c.in-Err.ensures.bad)

@@ -1,7 +1,8 @@
 use Rattle.std.proofs.Common.{subst, sym}
 use Rattle.match_play.specs.Scripts.{RefusesScript}
+use Rattle.match_play.specs.inner.Reading.{HoldsCause}
 use Rattle.match_play.proofs.LastItems.{rest_shorter}
-use Rattle.match_play.proofs.ScriptsSaid.{fits_next, rest_item, rest_stops, rest_whole, with_item, with_lines}
+use Rattle.match_play.proofs.ScriptsSaid.{fits_next, rest_holds, rest_item, rest_stops, rest_whole, with_item, with_lines}
 use Rattle.match_play.proofs.scripts.read_rest.Goals as goal
 
 pub items-init : goal.items-init
@@ -45,3 +46,8 @@ pub returns-in-Err-clause-err : goal.returns-in-Err-clause-err
 returns-in-Err-clause-err c = λ script h.
     subst (RefusesScript script) (sym c.fault_in.ensures)
     (rest_stops script c.items.lines c.finish.new.self c.items.said c.in-Err.fault (c.items.invariant.read script h) c.in-Err.ensures.told)
+
+pub returns-in-Err-clause-cause : goal.returns-in-Err-clause-cause
+returns-in-Err-clause-cause c = λ script h.
+    subst (HoldsCause script c.finish.new.self) (sym c.fault_in.ensures)
+    (rest_holds script c.items.lines c.finish.new.self c.items.said c.in-Err.fault (c.items.invariant.read script h) c.in-Err.ensures.told c.in-Err.ensures.bad)

@@ -3,9 +3,8 @@ use Rattle.match_play.proofs.scripts.read_script.Goals as goal
 
 pub returns : goal.returns
 returns c =
-    let whole = c.in_ok-read_rest.ensures.ok c.args.script.now c.in_ok-read_lines.ensures.ok in
-    says_match c.args.script.now c.read_rest.new.lines c.read_rest.new.said c.in-Some.map whole c.in_ok-read_rest.ensures.keeps c.in-Some.is
+    let said = c.in_ok-map.ensures in
+    says_match c.args.script.now c.read_all.new.lines c.in_ok-map.field-0 c.in-Some.map said.ok said.keeps c.in-Some.is
 
 pub unreachable-requires : goal.unreachable-requires
-unreachable-requires c =
-    has_map c.args.script.now c.read_rest.new.said (c.in_ok-read_rest.ensures.ok c.args.script.now c.in_ok-read_lines.ensures.ok) c.in-None.is
+unreachable-requires c = has_map c.args.script.now c.in_ok-map.field-0 c.in_ok-map.ensures.ok c.in-None.is
