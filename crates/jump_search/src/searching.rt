@@ -1,5 +1,5 @@
 //! The search: jump states are opened by their estimates until none is left within the cost of the best hit.
-ghost use Rattle.std.specs.Prelude.{◌≡◌, ◌<◌, ◌+◌, ◌⊎◌, ℕ, Bool, List, Some, length, IsSome};
+ghost use Rattle.std.specs.Prelude.{◌≡◌, ◌<◌, ◌+◌, ◌⊎◌, ℕ, Bool, List, Some, IsSome};
 ghost use Rattle.std.specs.Prelude.{IsTrue, IsFalse, IfSome, IfNone, IfOk, OnOk, OnErr};
 ghost use Rattle.std.specs.FinMap as map;
 ghost use Rattle.nav_types.specs.declared.cells.Cell.{Cell};

@@ -1,5 +1,5 @@
 //! Fields of distances from a landmark, in units.
-ghost use Rattle.std.specs.Prelude.{◌≡◌, ◌+◌, ◌<◌, ◌≤◌, ◌^◌, ℕ, length, slice_index, IfOk, OnOk, IsTrue};
+ghost use Rattle.std.specs.Prelude.{◌≡◌, ◌+◌, ◌<◌, ◌≤◌, ◌^◌, length, IfOk, OnOk, IsTrue};
 ghost use Rattle.landmarks.specs.inner.Fields.{Spreads, IsInner, HasRoom};
 
 use crate::marks::clear;

@@ -1,5 +1,4 @@
 //! A queue of places.
-ghost use Rattle.std.specs.Prelude.{◌≡◌};
 
 use nav_types::{Dir, NoMemory};
 use std::alloc::Global;

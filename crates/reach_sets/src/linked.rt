@@ -1,11 +1,11 @@
 //! Areas of many regions of which few have links.
-ghost use Rattle.std.specs.Prelude.{ℕ, ◌≡◌, ◌<◌, ◌≤◌, ◌-◌, ◌+◌, ◌/◌, ◌^◌, length, sum, set, slice_index, All, IfOk, OnOk, IsTrue};
+ghost use Rattle.std.specs.Prelude.{ℕ, ◌≡◌, ◌<◌, ◌≤◌, ◌-◌, ◌+◌, ◌/◌, ◌^◌, length, sum, set, slice_index, All, IfOk, IsTrue};
 ghost use Rattle.reach_sets.specs.declared.regions.RegionId.{RegionId};
 ghost use Rattle.reach_sets.specs.RegionOrder.{IsRegion, place};
 ghost use Rattle.reach_sets.specs.AreaNumbers.{AreAreas};
 ghost use Rattle.reach_sets.specs.inner.Forests.{IsForest};
 ghost use Rattle.reach_sets.specs.inner.Marks.{is_marked, marked_before};
-ghost use Rattle.reach_sets.specs.inner.Linked.{HasMarks, AreEnds, IsEndForest, AreChildCounts, AreEndAreas};
+ghost use Rattle.reach_sets.specs.inner.Linked.{AreEnds, IsEndForest, AreChildCounts, AreEndAreas};
 
 use crate::forests::{apart, join};
 use crate::marks::{Marks, WORD, mark};

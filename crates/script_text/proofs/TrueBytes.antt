@@ -18,11 +18,11 @@ use Rattle.script_text.specs.declared.causes.line_states.NumberState.TheVariants
 use Rattle.script_text.specs.declared.causes.line_states.EscapeState.{EscapeState}
 use Rattle.script_text.specs.declared.causes.line_states.EscapeState.TheVariants.{Begun, Code, CodeD, Digits, FirstHalf, Pair, PairBackslash, PairCode, PairCodeD}
 use Rattle.script_text.specs.declared.causes.mistakes.Mistake.{Mistake}
-use Rattle.script_text.specs.declared.causes.mistakes.Mistake.TheVariants.{Comment, SingleQuote, NoNumber, NumberStart, LeadingZero, WrongNumber, BareWord, Control, Escape, HexDigit, HalfPair, TrailingComma, MissingComma, StrayColon, NoValue, BehindValue}
+use Rattle.script_text.specs.declared.causes.mistakes.Mistake.TheVariants.{Comment, SingleQuote, NoNumber, NumberStart, LeadingZero, WrongNumber, BareWord, Control, HexDigit, HalfPair, TrailingComma, MissingComma, StrayColon, NoValue, BehindValue}
 use Rattle.script_text.specs.Nesting.{closes}
 use Rattle.script_text.specs.Script.{reading_of}
 use Rattle.script_text.specs.Causes.{is_blank, has_mark, text_cause, unread_cause, reading_cause, cause}
-use Rattle.script_text.specs.LineStates.{is_digit, is_of_number, is_of_word, is_escape, is_hex, is_d, is_first, is_second, number_behind, is_number, hex_from, digits_behind, half_behind, behind_d, escape_behind}
+use Rattle.script_text.specs.LineStates.{is_digit, is_of_number, is_of_word, is_escape, is_hex, is_d, number_behind, is_number, hex_from, digits_behind, half_behind, escape_behind}
 use Rattle.script_text.specs.Mistakes.{at_start, behind, look_from, mistake_by, mistake_at, mistake_outside, comma_mistake, colon_mistake, closing_mistake, value_mistake, strange_byte, begins_value, ends_value, is_control, wrong_number, number_mistake, wrong_escape, escape_mistake, ending_by, told_at, broken_from, broken_cause}
 use Rattle.script_text.specs.TrueBytes.{HasNoMistake, IsOutside, Says, IsInString, IsTrueOfBytes}
 use Rattle.script_text.proofs.BrokenLines.{text-causes}
