@@ -23,3 +23,6 @@ pub const NEAR_GOAL: u8 = 7;
 
 /// The region and the area at a point.
 pub const IN_REGION: u8 = 8;
+
+/// A path costs more than it may: of a find within a greatest cost, and never of a turn.
+pub const TOO_FAR: u8 = 9;
