@@ -8,7 +8,7 @@
  *     by text       pathserve_open       feed, finish          waiting, take, cause
  *     by structs    pathserve_open_map   check, post_all, end_turn   replies, waypoints, journal
  *                   pathserve_open_grid  limit_posts
- *     to go on      pathserve_open_script, snapshot, forget          turn_digest, view_digest
+ *     to go on      pathserve_open_script, script_cause, snapshot, forget   turn_digest, view_digest
  *     to look       pathserve_view_of    passable, region, area, row, nearest, standing_at, standing, find, field,
  *                                        clear, smooth
  *     to find much  pathserve_finder_open   find_with, find_all
@@ -594,6 +594,13 @@ pathserve_status pathserve_smooth(pathserve_view *view, uint32_t class_number, c
  *   OPEN, NO_MEMORY
  * Only with DONE is the handle written, and only with BAD_LINE and TOO_LONG `bad_line`. */
 pathserve_status pathserve_open_script(pathserve_match *match, const uint8_t *script, size_t length, uint64_t *bad_line);
+
+/* Says at which line a script is bad and why, in the words that pathserve_cause has for a match by text. It reads the script, and
+ * plays nothing. `bad_line` gets the number of the line, from 1, and `whole` the size of the text: both 0 for a script that stops
+ * at no bad line, so also for one that is TOO_LONG. DONE: the text is at the start of the buffer. SMALL: it does not fit, and
+ * nothing was written to the buffer; so a first call with (NULL, 0) asks for the size. NO_MEMORY: nothing was written. */
+pathserve_status pathserve_script_cause(const uint8_t *script, size_t length, uint64_t *bad_line,
+                                        uint8_t *buffer, size_t buffer_length, size_t *whole);
 
 /* Writes what a view shows as a script in canonical form: the map, in version 3, and one turn in which caller 0 adds all current
  * obstructions, by rising number. A match that is opened from it, by structs or by text, has the same map and the same

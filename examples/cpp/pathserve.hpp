@@ -84,15 +84,18 @@ class Failed : public std::runtime_error {
     pathserve_status its_status;
 };
 
-// A script that opens no match. A line of BAD_LINE or TOO_LONG is told by its number, from 1.
+// A script that opens no match. A line of BAD_LINE or TOO_LONG is told by its number, from 1, and of BAD_LINE why it is bad.
 class BadScript : public Failed {
   public:
-    BadScript(pathserve_status status, std::uint64_t line) : Failed(status), its_line(line) {}
+    BadScript(pathserve_status status, std::uint64_t line, std::string cause)
+        : Failed(status), its_line(line), its_cause(std::move(cause)) {}
 
     std::uint64_t line() const noexcept { return its_line; }
+    const std::string &cause() const noexcept { return its_cause; }
 
   private:
     std::uint64_t its_line;
+    std::string its_cause;
 };
 
 inline void must(pathserve_status status) {
@@ -437,6 +440,25 @@ class Finder {
 
 // ---- matches
 
+// The line at which a script is bad, from 1, and why, as the program says it. 0 and no cause where none is.
+struct BadLine {
+    std::uint64_t line = 0;
+    std::string cause;
+};
+inline BadLine cause_of(std::string_view script) {
+    BadLine bad;
+    std::size_t whole = 0;
+    auto bytes = reinterpret_cast<const std::uint8_t *>(script.data());
+    auto told = [&] {
+        auto text = reinterpret_cast<std::uint8_t *>(bad.cause.data());
+        return pathserve_script_cause(bytes, script.size(), &bad.line, text, bad.cause.size(), &whole);
+    };
+    pathserve_status status;
+    while ((status = told()) == PATHSERVE_SMALL) bad.cause.resize(whole);
+    must(status);
+    return bad;
+}
+
 // A match by posts.
 class Match {
   public:
@@ -460,7 +482,7 @@ class Match {
         std::uint64_t line = 0;
         auto bytes = reinterpret_cast<const std::uint8_t *>(script.data());
         pathserve_status status = pathserve_open_script(made.get(), bytes, script.size(), &line);
-        if (status == PATHSERVE_BAD_LINE || status == PATHSERVE_TOO_LONG) throw BadScript(status, line);
+        if (status == PATHSERVE_BAD_LINE || status == PATHSERVE_TOO_LONG) throw BadScript(status, line, cause_of(script).cause);
         must(status);
         return made;
     }

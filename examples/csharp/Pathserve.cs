@@ -45,10 +45,15 @@ namespace Pathserve
         /// <summary>The number of the line of a script that opens no match, or 0.</summary>
         public readonly ulong Line;
 
-        public PathserveException(Status status, ulong line = 0) : base("pathserve: " + status + (line == 0 ? "" : " at line " + line))
+        /// <summary>Why that line is bad, as the program says it. Empty where none is.</summary>
+        public readonly string Cause;
+
+        public PathserveException(Status status, ulong line = 0, string cause = "")
+            : base("pathserve: " + status + (line == 0 ? "" : " at line " + line) + (cause == "" ? "" : ": " + cause))
         {
             Status = status;
             Line = line;
+            Cause = cause;
         }
     }
 
@@ -278,6 +283,8 @@ namespace Pathserve
 
         [DllImport(Library)] internal static extern Status pathserve_open_script(
             ref Handle match, [In] byte[] script, UIntPtr length, ref ulong badLine);
+        [DllImport(Library)] internal static extern Status pathserve_script_cause(
+            [In] byte[] script, UIntPtr length, ref ulong badLine, [Out] byte[] buffer, UIntPtr bufferLength, out UIntPtr whole);
         [DllImport(Library)] internal static extern Status pathserve_snapshot(
             ref Handle view, [Out] byte[] buffer, UIntPtr length, out UIntPtr whole);
         [DllImport(Library)] internal static extern Status pathserve_forget(ref Handle match);
@@ -428,8 +435,22 @@ namespace Pathserve
         {
             ulong line = 0;
             Status status = Native.pathserve_open_script(ref handle, script, Native.Count(script), ref line);
-            if (status == Status.BadLine || status == Status.TooLong) throw new PathserveException(status, line);
+            if (status == Status.BadLine || status == Status.TooLong)
+                throw new PathserveException(status, line, CauseOf(script, out line));
             Native.Must(status);
+        }
+
+        /// <summary>Why a script is bad, as the program says it, and the number of the line. Empty, and 0, where no line is bad.</summary>
+        public static string CauseOf(byte[] script, out ulong line)
+        {
+            line = 0;
+            UIntPtr whole;
+            UIntPtr length = Native.Count(script);
+            Status status = Native.pathserve_script_cause(script, length, ref line, null, UIntPtr.Zero, out whole);
+            if (status != Status.Small) Native.Must(status);
+            byte[] text = new byte[(ulong)whole];
+            Native.Must(Native.pathserve_script_cause(script, length, ref line, text, whole, out whole));
+            return Native.Said(text, whole);
         }
 
         /// <summary>Begins the journal anew, with one turn that adds what stands: the next turn is the second.</summary>

@@ -654,10 +654,31 @@ class Python(unittest.TestCase):
             with self.assertRaises(api.BadScript) as raised:
                 api.PostedMatch.of_script(script)
             self.assertEqual((raised.exception.status, raised.exception.line), (stop.BAD_LINE, line))
+            self.assertEqual((line, raised.exception.cause), self.bad_line_by_text(script))
         for version in (1, 2):
             with self.assertRaises(api.Failed) as raised:
                 api.PostedMatch.of_script(head.replace(b":3,", b":%d," % version, 1))
             self.assertEqual(raised.exception.status, stop.BAD_VALUE)
+
+    def bad_line_by_text(self, script):
+        """At which line a match by text finds a script bad, and why."""
+        with self.api.TextMatch() as match:
+            try:
+                match.feed(script)
+                match.finish()
+            except self.api.BadLine as bad:
+                return int(match.take().split()[-1]), bad.cause
+        return 0, ""
+
+    def test_a_script_says_its_bad_line_as_a_match_by_text_does(self):
+        found = {True: 0, False: 0}
+        for script, _, _ in scripts(60):
+            for its in (script, script[:-1], script[: len(script) // 2], script + b"\n", script + script):
+                said = self.api.cause_of(its)
+                self.assertEqual(said, self.bad_line_by_text(its), its)
+                found[bool(said[0])] += 1
+        self.assertGreater(min(found.values()), 30)
+        self.assertEqual(self.api.cause_of(b" " * ((1 << 23) + 1) + b"\n"), (0, ""))
 
     def test_a_match_by_text_of_an_older_version_has_snapshots_too(self):
         opened = 0

@@ -35,7 +35,7 @@ mod versions;
 mod views;
 mod words;
 
-pub use causes::pathserve_cause;
+pub use causes::{pathserve_cause, pathserve_script_cause};
 pub use checks::{NOT_ZERO, WRONG_CALLER, WRONG_CLASS, WRONG_GOAL, WRONG_KIND, pathserve_check};
 pub use digests::{pathserve_turn_digest, pathserve_view_digest};
 pub use fields::pathserve_field;

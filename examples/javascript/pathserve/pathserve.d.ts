@@ -21,9 +21,11 @@ export class Failed extends Error {
   readonly taken: number;
 }
 
-/** A script that opens no match: its line of this number is not in the grammar in its place, or past its limit. */
+/** A script that opens no match: its line of this number is not in the grammar in its place, and why; or past its limit, without a
+ * cause. */
 export class BadScript extends Failed {
   readonly line: number;
+  readonly cause: string;
 }
 
 export interface Cell { i: number; j: number }
@@ -116,6 +118,8 @@ export class Library {
   postedMatch(map: MapOfMatch): PostedMatch;
   /** A match in which the bytes of a whole script of version 3 were played, such as a journal or a snapshot. */
   scriptMatch(script: Uint8Array): PostedMatch;
+  /** The line at which a script is bad, and why, as the program says it. Line 0 and no cause where none is. */
+  causeOf(script: Uint8Array): { line: number; cause: string };
   /** The memory of searches, for views of any match of this library. */
   finder(): Finder;
 }

@@ -43,11 +43,12 @@ export class Failed extends Error {
   }
 }
 
-/** A script that opens no match: its line of this number is not in the grammar in its place, or past its limit. */
+/** A script that opens no match: its line of this number is not in the grammar in its place, and why; or past its limit, without a
+ * cause. */
 export class BadScript extends Failed {
-  constructor(status, line) {
+  constructor(status, line, cause) {
     super(status);
-    Object.assign(this, { name: "BadScript", line });
+    Object.assign(this, { name: "BadScript", line, cause });
   }
 }
 
@@ -308,6 +309,23 @@ export class Library {
     return new PostedMatch(this, script);
   }
 
+  #causeIn(script, count) {
+    const [line, whole, at, text] = this.room(8, 8, script.length, count);
+    this.bytes.set(script, at);
+    const status = this.call("script_cause", ...[at, script.length, line, text, count, whole].map(BigInt));
+    const number = (place) => Number(this.data.getBigUint64(place, true));
+    const cause = new TextDecoder().decode(this.bytes.slice(text, text + count));
+    return { status, size: number(whole), line: number(line), cause };
+  }
+
+  /** The line at which a script is bad, and why, as the program says it. Line 0 and no cause where none is. */
+  causeOf(script) {
+    const asked = this.#causeIn(script, 0);
+    const { status, line, cause } = asked.status === Status.SMALL ? this.#causeIn(script, asked.size) : asked;
+    must(status);
+    return { line, cause };
+  }
+
   /** The memory of searches, for views of any match of this library. */
   finder() {
     return new Finder(this);
@@ -438,7 +456,7 @@ export class PostedMatch extends Match {
     const isBad = status === Status.BAD_LINE || status === Status.TOO_LONG;
     const bad = isBad ? Number(this.library.data.getBigUint64(line, true)) : 0;
     if (status !== Status.DONE) this.close();
-    if (isBad) throw new BadScript(status, bad);
+    if (isBad) throw new BadScript(status, bad, this.library.causeOf(script).cause);
     must(status);
   }
 

@@ -10,7 +10,7 @@ A number that a field of the library does not hold is refused by ValueError. Any
 one wait for one another, and those of distinct ones do not.
 """
 from .finders import Finder
-from .matches import PostedMatch, TextMatch, Turn
+from .matches import PostedMatch, TextMatch, Turn, cause_of
 from .native import BadLine, BadPost, BadScript, Failed, Fault, OutOfMemory, Status, load, text_of
 from .posts import (
     NAVCELL,
@@ -39,5 +39,5 @@ from .views import FlowField, View
 __all__ = [
     "NAVCELL", "BadLine", "BadPost", "BadScript", "Cell", "Failed", "Fault", "Finder", "FlowField", "Goal", "GoalKind", "Kind",
     "OutOfMemory", "PassabilityClass", "Path", "Post", "PostKind", "PostedMatch", "Rect", "Refusal", "Region", "Reply", "Status",
-    "TextMatch", "Turn", "View", "add_square", "add_unit", "fixed", "load", "move", "path", "region", "remove", "text_of",
+    "TextMatch", "Turn", "View", "add_square", "add_unit", "cause_of", "fixed", "load", "move", "path", "region", "remove", "text_of",
 ]

@@ -84,6 +84,14 @@ def _masks_of(masks: Sequence[int]) -> ctypes.Array:
     return (ctypes.c_uint16 * len(masks))(*masks)
 
 
+def cause_of(script: bytes) -> tuple[int, str]:
+    """The number of the line at which a script is bad, and why, as the program says it. 0 and no cause where none is."""
+    its, bad_line = bytes(memoryview(script)), ctypes.c_uint64()
+    call = native.load().pathserve_script_cause
+    cause = written(lambda *room: call(its, len(its), bad_line, *room)).decode()
+    return bad_line.value, cause
+
+
 class PostedMatch(_Match):
     """A match on a map, whose turns are posts."""
 
@@ -149,7 +157,7 @@ class PostedMatch(_Match):
         its = bytes(memoryview(script))
         status = match._call("open_script", its, len(its), bad_line)
         if status in (Status.BAD_LINE, Status.TOO_LONG):
-            raise BadScript(status, bad_line.value)
+            raise BadScript(status, bad_line.value, cause_of(its)[1])
         must(status)
         return match
 

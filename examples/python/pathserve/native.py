@@ -69,11 +69,12 @@ class BadLine(Failed):
 
 
 class BadScript(Failed):
-    """A script that opens no match: the line of this number is not in the grammar in its place, or past its limit."""
+    """A script that opens no match: the line of this number is not in the grammar in its place, and why; or it is past its limit,
+    without a cause."""
 
-    def __init__(self, status: int, line: int) -> None:
-        super().__init__(status, f"line {line}")
-        self.line = line
+    def __init__(self, status: int, line: int, cause: str) -> None:
+        super().__init__(status, f"line {line}: {cause}" if cause else f"line {line}")
+        self.line, self.cause = line, cause
 
 
 class MatchHandle(ctypes.Structure):
@@ -184,6 +185,7 @@ CALLS = {
     "clear": (c_uint32, [VIEW, c_uint32, POINTER(CellStruct), POINTER(CellStruct)]),
     "smooth": (c_uint32, [VIEW, c_uint32, POINTER(CellStruct), POINTER(CellStruct), c_size_t, SIZE]),
     "open_script": (c_uint32, [MATCH, c_void_p, c_size_t, POINTER(c_uint64)]),
+    "script_cause": (c_uint32, [c_void_p, c_size_t, POINTER(c_uint64), c_void_p, c_size_t, SIZE]),
     "snapshot": (c_uint32, [VIEW, c_void_p, c_size_t, SIZE]),
     "forget": (c_uint32, [MATCH]),
     "turn_digest": (c_uint32, [MATCH, POINTER(c_uint64)]),

@@ -175,6 +175,9 @@ public static class Binding
             }
         }
         Refused(Status.BadLine, () => new PostedMatch(new byte[] { 10 }), "a script of an empty line");
+        ulong line;
+        string cause = PostedMatch.CauseOf(new byte[] { 10 }, out line);
+        Must(cause == "the line must be one JSON value, and is blank" && line == 1, "another cause");
     }
 
     public static void Main()

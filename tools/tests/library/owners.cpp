@@ -165,11 +165,14 @@ void saves() {
     }
     holds(late.digest() == match.digest() && again.digest() == match.digest(), "players out of step");
     std::uint64_t line = 0;
+    std::string cause;
     try {
         Match::of_script(saved.substr(0, saved.size() - 1) + "{}");
     } catch (const BadScript &bad) {
         line = bad.line();
+        cause = bad.cause();
     }
+    holds(!cause.empty() && cause_of(saved).line == 0 && cause_of(saved).cause.empty(), "another cause");
     holds(line == static_cast<std::uint64_t>(std::count(saved.begin(), saved.end(), '\n')), "another bad line");
 }
 

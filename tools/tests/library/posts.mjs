@@ -112,7 +112,8 @@ function saved(match) {
   match.forget();
   if (last !== 0n) for (const it of [match, whole, late]) assert.deepEqual(it.journal(), snapshot);
   assert.equal(match.digest(), last);
-  assert.throws(() => library.scriptMatch(new Uint8Array([10])), { name: "BadScript", line: 1 });
+  assert.throws(() => library.scriptMatch(new Uint8Array([10])), { name: "BadScript", line: 1, cause: "the line must be one JSON value, and is blank" });
+  assert.deepEqual(library.causeOf(snapshot), { line: 0, cause: "" });
   [view, whole, late].forEach((it) => it.close());
 }
 

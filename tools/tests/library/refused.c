@@ -160,17 +160,22 @@ static pathserve_status play_text(void) {
     return status;
 }
 
-/* A bad line, and its cause. */
+/* A bad line, and its cause, of a match and of a script. */
 static pathserve_status play_bad_line(void) {
     static const uint8_t bad[] = "{\"version\":4}\n";
     pathserve_match match = {0};
     pathserve_status status;
     size_t bytes = 0;
+    uint64_t line = 0;
     AGAIN(status, pathserve_open(&match, PATHSERVE_REPLAY));
     if (status == PATHSERVE_DONE) status = feed_all(&match, bad, sizeof bad - 1);
     if (status == PATHSERVE_DONE) AGAIN(status, pathserve_finish(&match));
     if (status == PATHSERVE_BAD_LINE) AGAIN(status, pathserve_cause(&match, text + length, sizeof text - length, &bytes));
     if (status == PATHSERVE_DONE) length += bytes;
+    if (status == PATHSERVE_DONE)
+        AGAIN(status, pathserve_script_cause(bad, sizeof bad - 1, &line, text + length, sizeof text - length, &bytes));
+    if (status == PATHSERVE_DONE) length += bytes;
+    if (status == PATHSERVE_DONE && line != 1) fail("another bad line", first_refused);
     pathserve_close(&match);
     return status;
 }

@@ -268,6 +268,14 @@ extern "C" {
     ) -> u32;
 
     pub fn pathserve_open_script(its: *mut Match, script: *const u8, length: usize, bad_line: *mut u64) -> u32;
+    pub fn pathserve_script_cause(
+        script: *const u8,
+        length: usize,
+        bad_line: *mut u64,
+        buffer: *mut u8,
+        buffer_length: usize,
+        whole: *mut usize,
+    ) -> u32;
     pub fn pathserve_snapshot(view: *mut View, buffer: *mut u8, length: usize, whole: *mut usize) -> u32;
     pub fn pathserve_forget(its: *mut Match) -> u32;
     pub fn pathserve_turn_digest(its: *mut Match, digest: *mut u64) -> u32;

@@ -1,5 +1,5 @@
 //! Opens a match from a script, and again from what stands then: cargo run --example saves < skirmish.script
-use pathserve::{fixed, Error, Goal, Post, PostedMatch};
+use pathserve::{cause_of, fixed, Error, Goal, Post, PostedMatch};
 use std::io::{self, Read};
 
 fn main() -> Result<(), Error> {
@@ -19,5 +19,8 @@ fn main() -> Result<(), Error> {
         println!("turn {}, digest {:016x}", its.end_turn()?.turn, its.digest()?);
     }
     assert_eq!(PostedMatch::of_script(b"{}").err(), Some(Error::BadScript { line: 1 }));
+    let (line, cause) = cause_of(b"{} // once")?.expect("a bad line");
+    assert_eq!((line, cause.starts_with("byte 4: JSON has no comments")), (1, true));
+    assert_eq!(cause_of(&saved)?, None);
     Ok(())
 }

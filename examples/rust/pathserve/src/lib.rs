@@ -16,7 +16,7 @@ mod posts;
 mod views;
 
 pub use finders::Finder;
-pub use matches::{PostFault, PostedMatch, Report, TextMatch, Turn};
+pub use matches::{cause_of, PostFault, PostedMatch, Report, TextMatch, Turn};
 pub use pathserve_sys::{Cell, Rect};
 pub use posts::{fixed, Class, Goal, Outcome, Path, Post, Refusal, Reply, NAVCELL};
 pub use views::View;
@@ -30,7 +30,8 @@ pub enum Error {
     BadLine,
     /// A line or the script is past its limit. The match has stopped.
     TooLong,
-    /// The script opens no match: this line of it is not in the grammar in its place, or past its limit.
+    /// The script opens no match: this line of it is not in the grammar in its place, and [`cause_of`] says why; or it is past
+    /// its limit.
     BadScript { line: u64 },
     /// There was no memory; so many of the bytes that were fed were taken.
     OutOfMemory { taken: usize },

@@ -109,6 +109,16 @@ pub struct Turn {
     pub replies: Vec<Reply>,
 }
 
+/// The number of the line at which a script is bad, and why, as the program says it. None where no line is bad.
+pub fn cause_of(script: &[u8]) -> Result<Option<(u64, String)>, Error> {
+    let mut line = 0;
+    // SAFETY: a slice and a buffer with their lengths.
+    let text = written(|buffer, whole| unsafe {
+        sys::pathserve_script_cause(script.as_ptr(), script.len(), &mut line, buffer.as_mut_ptr(), buffer.len(), whole)
+    })?;
+    Ok((line != 0).then(|| (line, String::from_utf8_lossy(&text).into_owned())))
+}
+
 /// A match on a map, whose turns are posts.
 pub struct PostedMatch(Owned);
 
