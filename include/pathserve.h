@@ -11,7 +11,7 @@
  *     to go on      pathserve_open_script, script_cause, snapshot, forget   turn_digest, view_digest
  *     to look       pathserve_view_of    passable, region, area, row, nearest, standing_at, standing, find, field,
  *                                        clear, smooth
- *     to find much  pathserve_finder_open   find_with, find_all
+ *     to find much  pathserve_finder_open   find_with, find_within, find_all
  *
  * WHAT YOU PROMISE, for each call. The library's functions are proved to be safe and to return the statuses and results
  * that this file states. Tested, and not proved, are four things: the statements about memory (NO_MEMORY only after a failed
@@ -411,7 +411,8 @@ enum { /* pathserve_reply.kind */
     PATHSERVE_NOWHERE = 5,   /* no cell of the map is passable for the class */
     PATHSERVE_AT_GOAL = 6,   /* a path that ends at the goal. start, end, cost, waypoints, first_waypoint */
     PATHSERVE_NEAR_GOAL = 7, /* a path that ends at the reachable cell closest to the goal. The same fields */
-    PATHSERVE_IN_REGION = 8  /* chunk, region, area */
+    PATHSERVE_IN_REGION = 8, /* chunk, region, area */
+    PATHSERVE_TOO_FAR = 9    /* a path costs more than it may: of a find within a greatest cost, and never of a turn */
 };
 enum { /* pathserve_reply.why of a refusal; 0 in other replies */
     PATHSERVE_BAD_SHAPE = 1,     /* a shape or a goal is past its limits */
@@ -524,7 +525,17 @@ void pathserve_finder_close(pathserve_finder *finder);
 pathserve_status pathserve_find_with(pathserve_finder *finder, pathserve_view *view, const pathserve_post *post,
                                      pathserve_reply *reply, pathserve_cell *waypoints, size_t count);
 
-/* The same for many posts of the kinds PATHSERVE_PATH and PATHSERVE_REGION, each answered as if alone. Writes a reply to each
+/* The same for a path that costs at most `most`, in the units of pathserve_reply.cost. The reply's kind is PATHSERVE_TOO_FAR, and
+ * its other fields but `caller` are 0, exactly if the path that pathserve_find answers costs more; and else the reply is the one
+ * of pathserve_find. So the answer is the same on every machine. The search goes no further than `most`: a walk that costs c
+ * stays within c / 65,536 navcells of its start each way, so the states that it expands lie among at most
+ * (2 * c / 65,536 + 1)^2 navcells. Not bounded by it: the scans of runs from these states, and what comes before the search, to
+ * find the nearest passable cell and whether the goal can be reached. DONE, BAD_VALUE, NO_MEMORY, CLOSED, OTHER as above. Only
+ * with DONE is anything written. */
+pathserve_status pathserve_find_within(pathserve_finder *finder, pathserve_view *view, const pathserve_post *post, uint64_t most,
+                                       pathserve_reply *reply, pathserve_cell *waypoints, size_t count);
+
+/* What pathserve_find_with does for many posts of the kinds PATHSERVE_PATH and PATHSERVE_REGION, each answered as if alone. Writes a reply to each
  * post, in the order of the posts, and the waypoints of all paths one after another: as many of either as fit, so let
  * `reply_count` be `post_count`. In a reply, `post` is the place of its post, from 0, and `first_waypoint` the place of the
  * path's first waypoint among all. `first_waypoint` plus `waypoints` of the last reply that is a path is how many there are: if

@@ -412,6 +412,16 @@ class Finder {
         return found;
     }
 
+    // What View::find answers, if that is no path that costs more than `most`; else a reply of the kind PATHSERVE_TOO_FAR.
+    Found find_within(View &view, const Post &post, std::uint64_t most) {
+        Found found = {{}, std::vector<Cell>(64)};
+        near(view, post, most, found);
+        bool fits = found.reply.waypoints <= found.waypoints.size();
+        found.waypoints.resize(static_cast<std::size_t>(found.reply.waypoints));
+        if (!fits) near(view, post, most, found);
+        return found;
+    }
+
     // What it answers to each of the posts, in their order.
     void find_all(View &view, const std::vector<Post> &posts, Replies &into) {
         into.replies.resize(posts.size());
@@ -425,6 +435,11 @@ class Finder {
     pathserve_finder *get() noexcept { return owner.get(); }
 
   private:
+    // Fills the buffer as it is.
+    void near(View &view, const Post &post, std::uint64_t most, Found &found) {
+        must(pathserve_find_within(get(), view.get(), &post, most, &found.reply, found.waypoints.data(), found.waypoints.size()));
+    }
+
     // Fills the buffers as they are, and gives how many waypoints there are in all.
     std::size_t found(View &view, const std::vector<Post> &posts, Replies &into) {
         must(pathserve_find_all(get(), view.get(), posts.data(), posts.size(), into.replies.data(), into.replies.size(),

@@ -29,7 +29,7 @@ namespace Pathserve
 
     public enum ReplyKind : byte
     {
-        Added = 1, Removed = 2, Moved = 3, Refused = 4, Nowhere = 5, AtGoal = 6, NearGoal = 7, InRegion = 8
+        Added = 1, Removed = 2, Moved = 3, Refused = 4, Nowhere = 5, AtGoal = 6, NearGoal = 7, InRegion = 8, TooFar = 9
     }
 
     public enum Refusal : byte
@@ -295,6 +295,8 @@ namespace Pathserve
         [DllImport(Library)] internal static extern void pathserve_finder_close(ref Handle finder);
         [DllImport(Library)] internal static extern Status pathserve_find_with(
             ref Handle finder, ref Handle view, ref Post post, ref Reply reply, [In, Out] Cell[] cells, UIntPtr count);
+        [DllImport(Library)] internal static extern Status pathserve_find_within(
+            ref Handle finder, ref Handle view, ref Post post, ulong most, ref Reply reply, [In, Out] Cell[] cells, UIntPtr count);
         [DllImport(Library)] internal static extern Status pathserve_find_all(
             ref Handle finder, ref Handle view, [In] Post[] posts, UIntPtr postCount, [In, Out] Reply[] replies, UIntPtr replyCount,
             [In, Out] Cell[] cells, UIntPtr cellCount);
@@ -665,6 +667,21 @@ namespace Pathserve
                 Native.Room(ref waypoints, reply.Waypoints);
                 Native.Must(Native.pathserve_find_with(
                     ref handle, ref view.handle, ref post, ref reply, waypoints, Native.Count(waypoints)));
+            } while (reply.Waypoints > (ulong)waypoints.Length);
+            return reply;
+        }
+
+        /// <summary>What `view.Find` answers to the post, if that is no path that costs more than `most`; else a reply of the kind
+        /// `TooFar`.</summary>
+        public Reply FindWithin(View view, Post post, ulong most, ref Cell[] waypoints)
+        {
+            Reply reply = new Reply();
+            Native.Room(ref waypoints, 64);
+            do
+            {
+                Native.Room(ref waypoints, reply.Waypoints);
+                Native.Must(Native.pathserve_find_within(
+                    ref handle, ref view.handle, ref post, most, ref reply, waypoints, Native.Count(waypoints)));
             } while (reply.Waypoints > (ulong)waypoints.Length);
             return reply;
         }

@@ -735,6 +735,26 @@ class Python(unittest.TestCase):
                         paths += sum(1 for it in one_by_one if it.path)
         self.assertGreater(paths, 100)
 
+    def test_a_find_within_a_cost_is_too_far_exactly_where_the_path_costs_more(self):
+        kind, paths = self.api.Kind.TOO_FAR, 0
+        with self.api.Finder() as finder:
+            for posted, _ in self.said(60):
+                with posted.open() as match:
+                    for posts in posted.turns:
+                        match.post(posts)
+                        match.end_turn()
+                        with match.view() as view:
+                            for post in (it for it in posts if it.kind in (5, 6)):
+                                found = view.find(post)
+                                cost = found.path.cost if found.path else 0
+                                for most in (cost, cost + 1, 2 * cost, (1 << 64) - 1):
+                                    self.assertEqual(finder.find_within(view, post, most), found)
+                                for most in {0, cost // 2, max(cost, 1) - 1} if cost else ():
+                                    told = finder.find_within(view, post, most)
+                                    self.assertEqual(told, self.api.Reply(post.caller, 0, kind))
+                                paths += cost > 0
+        self.assertGreater(paths, 100)
+
     def test_a_finder_refuses_as_a_view_and_writes_nothing_then(self):
         api, native = self.api, self.api.finders.native
         library, classes = api.load(), [api.PassabilityClass("walker", api.fixed(0.5))]
@@ -763,6 +783,7 @@ class Python(unittest.TestCase):
             ]
             for by, seen, status in calls:
                 self.assertEqual(library.pathserve_find_with(by, seen, posts, reply, cells, 2), status)
+                self.assertEqual(library.pathserve_find_within(by, seen, posts, 0, reply, cells, 2), status)
                 self.assertEqual(library.pathserve_find_all(by, seen, posts, 2, reply, 1, cells, 2), status)
             other = native.ViewHandle()
             self.assertEqual(library.pathserve_view_again(as_view, other), api.Status.NO_MAP)

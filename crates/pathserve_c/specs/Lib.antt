@@ -6,6 +6,7 @@ pub mod Digests
 pub mod Fields
 pub mod Finders
 pub mod Finds
+pub mod NearFinds
 pub mod Grids
 pub mod Handles
 pub mod Limits

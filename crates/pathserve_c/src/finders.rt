@@ -18,7 +18,7 @@ use turn_core::{Pool, Solver};
 /// that large (`Pool::is_small`). Contracts see nothing of the room, since no answer depends on it.
 #[derive(Drop)]
 pub struct Finder {
-    room: Option<Pool>,
+    pub(crate) room: Option<Pool>,
 }
 
 impl Model for Finder {
@@ -104,7 +104,7 @@ impl Finder {
     }
 
     /// Keeps a room for the next call, where it is small.
-    fn keep(&mut self, room: Pool) {
+    pub(crate) fn keep(&mut self, room: Pool) {
         if room.is_small() {
             self.room = Some(room);
         }

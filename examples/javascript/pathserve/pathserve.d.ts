@@ -60,7 +60,7 @@ export const Goal: Readonly<{
 export interface Reply {
   caller: number;
   post: number;
-  kind: "added" | "removed" | "moved" | "refused" | "nowhere" | "at-goal" | "near-goal" | "in-region";
+  kind: "added" | "removed" | "moved" | "refused" | "nowhere" | "at-goal" | "near-goal" | "in-region" | "too-far";
   id?: number;
   why?: "bad-shape" | "duplicate-id" | "store-full" | "unknown-id" | "unknown-class" | "start-outside" | "goal-outside";
   path?: { start: Cell; end: Cell; cost: number; waypoints: Cell[] };
@@ -201,6 +201,8 @@ export class View extends Owner {
 export class Finder extends Owner {
   /** What `view.find` answers to the post. */
   find(view: View, post: Post): Reply;
+  /** What `view.find` answers to the post, if that is no path that costs more than `most`; else a reply of the kind "too-far". */
+  findWithin(view: View, post: Post, most: number): Reply;
   /** What `view.find` answers to each of the posts, in their order. A reply's `post` is the place of its post. */
   findAll(view: View, posts: readonly Post[]): Reply[];
 }

@@ -90,8 +90,8 @@ const REPLY = struct(
 const HANDLE = 16, CLASS = 72, CELL = 4, NAME = 64, MASK = 2, TEXT = 96;
 // in the order of PATHSERVE_SIZE_..
 const SIZES = [HANDLE, HANDLE, MAP.size, CLASS, RECT.size, POST.size, TURN.size, REPLY.size, CELL, HANDLE];
-const LEAST = { Uint8: 0, Uint16: 0, Uint32: 0, Int32: -0x80000000 };
-const MOST = { Uint8: 255, Uint16: 65535, Uint32: 0xffffffff, Int32: 0x7fffffff };
+const LEAST = { Uint8: 0, Uint16: 0, Uint32: 0, Uint53: 0, Int32: -0x80000000 };
+const MOST = { Uint8: 255, Uint16: 65535, Uint32: 0xffffffff, Uint53: Number.MAX_SAFE_INTEGER, Int32: 0x7fffffff };
 
 function fitting(name, kind, value) {
   if (!Number.isInteger(value) || value < LEAST[kind] || value > MOST[kind]) throw new RangeError(`${name} cannot be ${value}`);
@@ -123,7 +123,7 @@ export const Goal = Object.freeze({
   obstruction: (id, distance) => ({ goal: GoalKind.OBSTRUCTION, id, radius: distance }),
 });
 
-const KINDS = ["", "added", "removed", "moved", "refused", "nowhere", "at-goal", "near-goal", "in-region"];
+const KINDS = ["", "added", "removed", "moved", "refused", "nowhere", "at-goal", "near-goal", "in-region", "too-far"];
 const WHYS = ["", "bad-shape", "duplicate-id", "store-full", "unknown-id", "unknown-class", "start-outside", "goal-outside"];
 
 function replyOf(it, waypoints) {
@@ -654,6 +654,12 @@ export class Finder extends Owner {
   /** What `view.find` answers to the post. */
   find(view, post) {
     return found(this.library, post, (...words) => this.#asked(view, "find_with", words));
+  }
+
+  /** What `view.find` answers to the post, if that is no path that costs more than `most`; else a reply of the kind "too-far". */
+  findWithin(view, post, most) {
+    const limit = BigInt(fitting("most", "Uint53", most));
+    return found(this.library, post, (asked, ...words) => this.#asked(view, "find_within", [asked, limit, ...words]));
   }
 
   /** What `view.find` answers to each of the posts, in their order. A reply's `post` is the place of its post. */

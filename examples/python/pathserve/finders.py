@@ -21,10 +21,20 @@ class Finder(Owner):
 
     def find(self, view: View, post: Post) -> Reply:
         """What `view.find` answers to the post."""
+        return self._found(view, "find_with", post)
+
+    def find_within(self, view: View, post: Post, most: int) -> Reply:
+        """What `view.find` answers to the post, if that is no path that costs more than `most`; else a reply of the kind TOO_FAR."""
+        if not 0 <= most < 1 << 64:
+            raise ValueError(f"most has no room for {most}")
+        return self._found(view, "find_within", post, most)
+
+    def _found(self, view: View, name: str, post: Post, *limits: int) -> Reply:
+        """The reply of a call to a post, within limits."""
         struct, reply = post.struct(), native.ReplyStruct()
 
         def ask(cells: ctypes.Array, room: int) -> int:
-            must(self._asked(view, "find_with", struct, reply, cells, room))
+            must(self._asked(view, name, struct, *limits, reply, cells, room))
             return reply.waypoints
 
         cells = with_room(64, ask)

@@ -177,6 +177,10 @@ CALLS = {
     "finder_open": (c_uint32, [FINDER]),
     "finder_close": (None, [FINDER]),
     "find_with": (c_uint32, [FINDER, VIEW, POINTER(PostStruct), POINTER(ReplyStruct), POINTER(CellStruct), c_size_t]),
+    "find_within": (
+        c_uint32,
+        [FINDER, VIEW, POINTER(PostStruct), c_uint64, POINTER(ReplyStruct), POINTER(CellStruct), c_size_t],
+    ),
     "find_all": (
         c_uint32,
         [FINDER, VIEW, POINTER(PostStruct), c_size_t, POINTER(ReplyStruct), c_size_t, POINTER(CellStruct), c_size_t],

@@ -124,6 +124,7 @@ class Kind(enum.IntEnum):
     AT_GOAL = 6
     NEAR_GOAL = 7
     IN_REGION = 8
+    TOO_FAR = 9
 
 
 class Refusal(enum.IntEnum):
@@ -158,7 +159,7 @@ class Region:
 
 @dataclass(frozen=True)
 class Reply:
-    """The reply to the post of this number among those of its caller. One of the last four is there, or none of them (NOWHERE)."""
+    """The reply to the post of this number among those of its caller. One of the last four is there, or none of them (NOWHERE, TOO_FAR)."""
 
     caller: int
     post: int

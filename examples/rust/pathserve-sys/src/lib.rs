@@ -36,6 +36,7 @@ pub const NOWHERE: u8 = 5;
 pub const AT_GOAL: u8 = 6;
 pub const NEAR_GOAL: u8 = 7;
 pub const IN_REGION: u8 = 8;
+pub const TOO_FAR: u8 = 9;
 
 pub const BAD_SHAPE: u8 = 1;
 pub const DUPLICATE_ID: u8 = 2;
@@ -233,6 +234,15 @@ extern "C" {
         finder: *mut Finder,
         view: *mut View,
         post: *const Post,
+        reply: *mut Reply,
+        waypoints: *mut Cell,
+        count: usize,
+    ) -> u32;
+    pub fn pathserve_find_within(
+        finder: *mut Finder,
+        view: *mut View,
+        post: *const Post,
+        most: u64,
         reply: *mut Reply,
         waypoints: *mut Cell,
         count: usize,

@@ -21,24 +21,39 @@ impl Finder {
 
     /// What `view.find` answers to the post.
     pub fn find(&mut self, view: &mut View, post: &Post) -> Result<Reply, Error> {
-        let (post, mut reply, mut waypoints) = (post.raw(), sys::Reply::default(), vec![sys::Cell::default(); 64]);
-        loop {
+        let post = post.raw();
+        found(|reply, waypoints| {
             // SAFETY: both handles are exclusive, and the buffer has its length.
             must(unsafe {
                 sys::pathserve_find_with(
                     &mut self.0,
                     view.handle(),
                     &post,
-                    &mut reply,
+                    reply,
                     waypoints.as_mut_ptr(),
                     waypoints.len(),
                 )
-            })?;
-            match reply.waypoints as usize {
-                count if count <= waypoints.len() => return Ok(reply_of(&reply, &waypoints)),
-                count => waypoints.resize(count, sys::Cell::default()),
-            }
-        }
+            })
+        })
+    }
+
+    /// What `view.find` answers to the post, if that is no path that costs more than `most`; else `Outcome::TooFar`.
+    pub fn find_within(&mut self, view: &mut View, post: &Post, most: u64) -> Result<Reply, Error> {
+        let post = post.raw();
+        found(|reply, waypoints| {
+            // SAFETY: both handles are exclusive, and the buffer has its length.
+            must(unsafe {
+                sys::pathserve_find_within(
+                    &mut self.0,
+                    view.handle(),
+                    &post,
+                    most,
+                    reply,
+                    waypoints.as_mut_ptr(),
+                    waypoints.len(),
+                )
+            })
+        })
     }
 
     /// What `view.find` answers to each of the posts, in their order. A reply's `post` is the place of its post.
@@ -66,6 +81,18 @@ impl Finder {
                 return Ok(replies.iter().map(|reply| reply_of(reply, &waypoints)).collect());
             }
             waypoints.resize(count, sys::Cell::default());
+        }
+    }
+}
+
+/// The reply that a call writes, with all its waypoints.
+fn found(mut ask: impl FnMut(&mut sys::Reply, &mut [sys::Cell]) -> Result<(), Error>) -> Result<Reply, Error> {
+    let (mut reply, mut waypoints) = (sys::Reply::default(), vec![sys::Cell::default(); 64]);
+    loop {
+        ask(&mut reply, &mut waypoints)?;
+        match reply.waypoints as usize {
+            count if count <= waypoints.len() => return Ok(reply_of(&reply, &waypoints)),
+            count => waypoints.resize(count, sys::Cell::default()),
         }
     }
 }

@@ -139,6 +139,8 @@ pub enum Outcome {
     AtGoal(Path),
     NearGoal(Path),
     InRegion { chunk: sys::Cell, region: u16, area: u32 },
+    /// A path that costs more than it may: of `Finder::find_within` alone.
+    TooFar,
 }
 
 /// The reply to the post of this number among those of its caller.
@@ -182,6 +184,7 @@ pub(crate) fn reply_of(reply: &sys::Reply, waypoints: &[sys::Cell]) -> Reply {
         sys::AT_GOAL => Outcome::AtGoal(path()),
         sys::NEAR_GOAL => Outcome::NearGoal(path()),
         sys::IN_REGION => Outcome::InRegion { chunk: reply.chunk, region: reply.region, area: reply.area },
+        sys::TOO_FAR => Outcome::TooFar,
         other => unreachable!("a reply of the kind {other}"),
     };
     Reply { caller: reply.caller, post: reply.post, outcome }
