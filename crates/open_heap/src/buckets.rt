@@ -127,23 +127,6 @@ pub fn make_places(heads: &mut Vec<u32>, bucket: usize) -> Result<(), NoMemory>
     Ok(())
 }
 
-/// Whether the eight buckets from the number on are there, and have no entry. They are looked at at once.
-#[inline(always)]
-pub fn are_empty(heads: &[u32], bucket: usize) -> bool
-    ensures within { IsTrue result → bucket + 8 ≤ length heads.now }
-    ensures empty { IsTrue result → (other : ℕ) → bucket ≤ other → other < bucket + 8
-        → slice_index heads.now other ≡ 0 }
-{
-    if bucket >= heads.len() || heads.len() - bucket < 8 {
-        return false;
-    }
-    let mut most = 0;
-    for place in bucket..bucket + 8 {
-        most = most.max(heads[place]);
-    }
-    most == 0
-}
-
 /// Puts entries in the order of falling estimates. Most buckets of a search in narrow ways have one entry.
 pub fn sort_falling(entries: &mut Vec<Entry>)
     ensures falling { AreFalling entries.new.items }

@@ -6,8 +6,7 @@ ghost use Rattle.open_heap.specs.inner.Buckets.{bucket_of, IsLive};
 ghost use Rattle.open_heap.specs.inner.Held.{Holds, HasRoom};
 
 use crate::buckets::{
-    Buckets, WIDTH, Waiting, are_empty, gather, is_live, make_places, place_of, reserve_far,
-    sort_falling,
+    Buckets, WIDTH, Waiting, gather, is_live, make_places, place_of, reserve_far, sort_falling,
 };
 use crate::entries::Entry;
 use nav_types::NoMemory;
@@ -216,11 +215,7 @@ impl Buckets {
         ensures none { IfNone result ((other : ℕ) → self.now.reached ≤ other
             → slice_index self.now.heads.items other ≡ 0) }
     {
-        let mut from = self.reached;
-        'pass: while are_empty(&self.heads, from) {
-            from += 8;
-        }
-        for bucket in from..self.heads.len() {
+        for bucket in self.reached..self.heads.len() {
             if self.heads[bucket] > 0 {
                 return Some(bucket);
             }
