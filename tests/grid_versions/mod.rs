@@ -454,11 +454,11 @@ fn searched(
 const SNAKE: &str = "......../#######./......../.#######/........";
 
 // How many jump states searches open before the edits, and how many tables there are after these. Two tables on the
-// snake cost 11 jump states: a sixth of its cells, with a border of one cell. A class has at most eight.
+// snake cost 17 jump states: a fourth of its cells, with a border of one cell. A class has at most eight.
 const EARNINGS: [(u64, &str, usize); 6] = [
-    (10, "", 0),
+    (16, "", 0),
     (1, "", 2),
-    (10, "", 2),
+    (16, "", 2),
     (1, "add 1 65535 unit 98304 32768 16384", 4),
     (1_000_000, "remove 1", 8),
     (1_000_000, "", 8),
@@ -492,7 +492,7 @@ fn tables_know_the_terrain_of_their_class(rt: HostRuntime) {
         panic!(rt; "no map");
     };
     // the corridor is open for class 1
-    let Some(next) = searched(&version, rt.alloc(), (1, 11), "") else {
+    let Some(next) = searched(&version, rt.alloc(), (1, 17), "") else {
         panic!(rt; "no version");
     };
     let bound = bound_in(&next, 1, [0, 4]).unwrap_or(u64::MAX);

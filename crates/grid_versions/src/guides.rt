@@ -4,7 +4,7 @@
 //!    searches note what they open --> a class has earned tables --> the next version has two more
 //! ```
 //!
-//! To make two tables costs about what it costs to open one jump state for each sixth cell of the map. Where the searches of
+//! To make two tables costs about what it costs to open one jump state for each fourth cell of the map. Where the searches of
 //! a class have opened as many since its last tables, the next version gets two more, so that a match pays for tables at most
 //! about what it has paid for searches. Tables are those of the map where nothing stands. They serve each of its versions,
 //! since obstructions take steps away and give none, and no edit touches them.
@@ -35,7 +35,7 @@ const LONG_SIDE: u16 = 1_024;
 const TABLES_AT_ONCE: usize = 2;
 
 /// For how many cells of the map one jump state has to be opened before tables are made.
-const CELLS_A_STATE: u64 = 6;
+const CELLS_A_STATE: u64 = 4;
 
 /// What the searches of a class go by, and what they have cost since that was made. Searches on all versions that share
 /// this are noted here. Contracts see the tables alone.
