@@ -104,6 +104,7 @@ fn within_in(
 }
 
 /// Answers a post on a version. Where it refuses nothing is written.
+#[tactic(auto, using(crate::proofs::Asking::page_of_told, crate::proofs::Asking::page_of_none))]
 fn find_within(
     alloc: Global,
     finder: &mut Finder,
