@@ -122,8 +122,7 @@ fn answers_in_pool(
         aim,
     };
     let found = question.find(pool, alloc)?;
-    Ok(is_found(search, &found)
-        && answers_within(alloc, pool, &question, search, found.cost.0)?)
+    Ok(is_found(search, &found) && answers_within(alloc, pool, &question, search, found.cost.0)?)
 }
 
 /// Whether a find within a greatest cost gives the answer at its cost, and none at one less.
