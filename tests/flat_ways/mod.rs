@@ -20,7 +20,7 @@ const MAPS: &str = "\
 const WALKED: &str = "...../...#./..#../.....";
 
 /// A start, cells, and whether they are the waypoints of a legal walk on `WALKED`.
-const WALKS: [(&str, &str, bool); 14] = [
+const WALKS: [(&str, &str, bool); 18] = [
     ("0,0", "", true),
     ("3,1", "", true),
     ("0,0", "4,0", true),
@@ -35,6 +35,11 @@ const WALKS: [(&str, &str, bool); 14] = [
     ("4,0", "4,3 0,3 0,0", true),
     ("4,0", "4,3 0,3 0,4", false),
     ("2,1", "3,2", false),
+    // neither straight nor diagonally ahead, although as many steps that way are legal
+    ("2,0", "0,1", false),
+    ("2,0", "1,2", false),
+    ("0,2", "2,1", false),
+    ("0,2", "1,0", false),
 ];
 
 /// Whether the item of a cell in both buffers is what the field has for it.
