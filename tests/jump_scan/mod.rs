@@ -3,7 +3,7 @@
 use crate::fixtures::aims::parsed_targets;
 use crate::fixtures::maps::drawn;
 use crate::fixtures::texts::{fields_of, parsed_cell};
-use crate::fixtures::views::stop_of;
+use crate::fixtures::views::{stop_of, stop_within};
 use jump_scan::{CellRuns, successors};
 use nav_types::{Class, Dir, DirSet, View};
 use std::alloc::Global;
@@ -83,6 +83,32 @@ fn stops_as_the_line_says(alloc: Global, line: &str) -> Option<bool> {
     Some(stop_of(&runs, class, from, dir, &targets) == parsed_cell(stop))
 }
 
+/// Whether the diagonal run of a line of `RUNS` stops within as many steps as lead to its stop, and within one more, but not
+/// within one less. None where the run is straight or has no stop, or the line is not in the form of the table.
+fn stops_with_its_last_step(alloc: Global, line: &str) -> Option<bool> {
+    let [map, cells, from, dir, stop, ..] = fields_of(line);
+    let class = Class::new(0);
+    let (from, stop) = (parsed_cell(from)?, parsed_cell(stop)?);
+    let dir = parsed_dir(dir)?;
+    let targets = parsed_targets(alloc, cells)?;
+    let map = drawn(alloc, map)?;
+    if dir.is_straight() || !map.size().has(from) || !targets.rect.is_inside(map.size()) {
+        return None;
+    }
+    let runs = CellRuns::new(&map);
+    let steps = from.i.abs_diff(stop.i);
+    for (most, wanted) in [
+        (steps, Some(stop)),
+        (steps.saturating_add(1), Some(stop)),
+        (steps.saturating_sub(1), None),
+    ] {
+        if stop_within(&runs, class, from, dir, &targets, most) != wanted {
+            return Some(false);
+        }
+    }
+    Some(true)
+}
+
 /// Whether a line of `SUCCESSORS` says what the successors are. None where it is not in the form of the table.
 fn goes_on_as_the_line_says(alloc: Global, line: &str) -> Option<bool> {
     let [map, cell, arrived, wanted, ..] = fields_of(line);
@@ -106,6 +132,19 @@ fn runs_stop_as_the_table_says(rt: HostRuntime) {
             "{line}"
         );
     }
+}
+
+#[test]
+fn a_bounded_run_looks_at_its_last_step(rt: HostRuntime) {
+    let mut count: u32 = 0;
+    for line in RUNS.lines() {
+        let told = stops_with_its_last_step(rt.alloc(), line);
+        assert!(rt; told != Some(false), "{line}");
+        if told.is_some() {
+            count += 1;
+        }
+    }
+    assert!(rt; count == 8, "{count} diagonal runs have a stop");
 }
 
 #[test]
