@@ -97,11 +97,13 @@ const WALL: Rect = Rect {
     j1: 64,
 };
 
+/// This square, as it is added.
+const WALL_ADDED: &str = "add 1 1 square 5210112 3145728 65536 0 3227648 1097728";
+
 /// Whether all bits are right before and after the square comes. None where there is no memory.
 fn are_planes_right(alloc: Global) -> Option<bool> {
     let version = blocked(alloc)?;
-    let edit = "add 1 1 square 5210112 3145728 65536 0 3227648 1097728";
-    let next = after(&version, alloc, edit)?;
+    let next = after(&version, alloc, WALL_ADDED)?;
     Some(is_plane_right(&version, NOWHERE) && is_plane_right(&next.version, WALL))
 }
 
@@ -205,23 +207,40 @@ fn cells_beside_a_cell_are_the_same_by_words_and_by_cells(rt: HostRuntime) {
     assert!(rt; are_alike_beside(rt.alloc()) == Some(true));
 }
 
-/// Whether the planes of the map, brought up to date by a call of its own with the rows of a later version, have all bits
-/// right, and runs over them stop where they do cell by cell. None where there is no memory.
-fn are_planes_updated(alloc: Global) -> Option<bool> {
+/// The cells of a square that fills two bands of columns, and ends with the last row of a band.
+const BANDS: Rect = Rect {
+    i0: 32,
+    j0: 10,
+    i1: 95,
+    j1: 31,
+};
+
+/// This square, as it is added.
+const BANDS_ADDED: &str = "add 1 1 square 4194304 1376256 65536 0 2080768 704512";
+
+/// Whether the planes of the map, brought up to date by a call of its own with the rows of a version after a square was
+/// added over these cells, have all bits right, and runs over them stop where they do cell by cell. None where there is no
+/// memory.
+fn are_planes_updated(alloc: Global, edit: &str, wall: Rect) -> Option<bool> {
     let version = blocked(alloc)?;
-    let edit = "add 1 1 square 5210112 3145728 65536 0 3227648 1097728";
     let next = after(&version, alloc, edit)?.version;
     let part = ChangedPart {
-        rect: WALL,
+        rect: wall,
         classes: 1,
     };
     let planes = version.planes().updated(alloc, &next, &[part]).ok()?;
     let plane = planes.plane(Class::new(0))?;
     let alike = stop_alike(&next, &planes, "point 8486912 2654208")?;
-    Some(wrong_cell(plane, WALL).is_none() && alike)
+    Some(wrong_cell(plane, wall).is_none() && alike)
 }
 
 #[test]
 fn planes_are_brought_up_to_date(rt: HostRuntime) {
-    assert!(rt; are_planes_updated(rt.alloc()) == Some(true));
+    assert!(rt; are_planes_updated(rt.alloc(), WALL_ADDED, WALL) == Some(true));
+}
+
+/// Along the lines behind a change runs stop elsewhere, also where these are the first of a band.
+#[test]
+fn runs_behind_a_change_that_ends_with_a_band_are_brought_up_to_date(rt: HostRuntime) {
+    assert!(rt; are_planes_updated(rt.alloc(), BANDS_ADDED, BANDS) == Some(true));
 }
