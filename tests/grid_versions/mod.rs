@@ -386,6 +386,43 @@ fn one_of_a_crowd_is_removed(rt: HostRuntime) {
     assert!(rt; passable_in(&next.version, 0) == Some(239));
 }
 
+/// A unit on each cell of the first two of seven rows of forty cells, and a square over all cells of the first three.
+fn covered_rows(alloc: Global) -> Option<Version> {
+    let open = version_of(alloc, [40, 7], (1, "0"), &[])?;
+    let mut edits = Edits::new(alloc);
+    for id in 0..80u16 {
+        edits
+            .push(unit_on(u32::from(id), [id % 40, id / 40], 16384))
+            .ok()?;
+    }
+    let full = open.after(alloc, &edits).ok()?.version;
+    let square = "add 100 65535 square 1310720 98304 65536 0 1294336 81920";
+    Some(after(&full, alloc, square)?.version)
+}
+
+/// What was under an obstruction stays blocked in each row, also where more stand there than are painted before it is looked
+/// at what is left to paint.
+#[test]
+fn rows_below_a_removed_square_stay_blocked(rt: HostRuntime) {
+    let Some(covered) = covered_rows(rt.alloc()) else {
+        panic!(rt; "no version");
+    };
+    assert!(rt; passable_in(&covered, 0) == Some(4 * 40));
+    let Some(next) = after(&covered, rt.alloc(), "remove 100") else {
+        panic!(rt; "no version after it");
+    };
+    assert!(rt; passable_in(&next.version, 0) == Some(5 * 40));
+    for i in 0..40u16 {
+        for j in 0..3u16 {
+            let region = u16::from(j == 2);
+            assert!(rt;
+                place_in(&next.version, [i, j]) == Some((0, region, u32::from(region))),
+                "at ({i}, {j})"
+            );
+        }
+    }
+}
+
 /// Whether the version has the row, with these numbers.
 fn row_is(version: &Version, j: u16, numbers: [u16; 6]) -> bool {
     let size = version.size();
