@@ -1,5 +1,6 @@
 //! Requests and turns on maps of one row, with their answers.
 
+mod by_tables;
 mod example;
 mod inside_out;
 
