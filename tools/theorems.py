@@ -40,6 +40,7 @@ PARTS = {
         ("Its end is the first of the nearest targets, and the walk that is traced back by costs is the chosen one", "jump_search search:find", "jump_search: Ending LastRuns Picking GoingBack Answering"),
         ("The way out of a rectangle, a disc or a turned square without goal cells is an estimate by which a search may go", "jump_search search:find", "jump_search: WaysOut Roots Rims Sides\nturn_core: OutOfShapes"),
         ("A run beyond the cost of a walk that is known may be cut off", "jump_search search:find", "jump_search: Bounding Ending"),
+        ("A find within a greatest cost finds none exactly where every walk costs more", "jump_search search:find_within; turn_core near_answers:solve_within", "jump_search: Within"),
         ("The opened number is exact", "jump_search search:trace; jump_search one_opened_number", "jump_search: Opening OneNumber"),
         ("Runs over bitboards stop where the definition says", "class_planes plane_scans:straight; class_planes plane_scans:diagonal", "class_planes: FarLemmas OpeningLemmas StepLemmas StopLemmas"),
         ("The precomputed jump flags are right, also after a change", "class_planes plane_sets:updated", "class_planes: StopLineLemmas StopWordLemmas StopChangeLemmas StopBandLemmas"),

@@ -6,7 +6,7 @@
 //! ```
 //!
 //! The rules are those of Harabor and Grastien, "Online Graph Pruning for Pathfinding on Grid Maps", AAAI 2011, for
-//! legal steps, which cut no corner: a neighbour is forced one cell behind the blocked one. [`Runs`] answers where a run
+//! legal steps, which cut no corner: a neighbour is forced one cell past the blocked one. [`Runs`] answers where a run
 //! stops; [`CellRuns`] does it cell by cell over any view, `class_planes` by bitboards.
 #![tactic(auto)]
 

@@ -1,8 +1,8 @@
 //! Walks over a view of a map: cost, waypoints, and the plain search for the chosen walk.
 //!
-//! Of the cheapest legal walks one is *chosen*: back from the end, each step is the first in a fixed order of
-//! directions that a cheapest walk may take (`specs/Chosen.antt`). [`plain_search`] finds it by distances of all cells
-//! (Dijkstra): slow, short, and what the jump search is held to. A [`Walk`] is a list of directions; its waypoints are
+//! Of the cheapest legal walks one is *chosen*: back from the end it goes straight on N, E, S or W where a cheapest walk
+//! may, else by the first in a fixed order of directions (`specs/Chosen.antt`). [`plain_search`] finds it by distances of
+//! all cells (Dijkstra): slow, short, and what the jump search is held to. A [`Walk`] is a list of directions; its waypoints are
 //! the middles of the cells where the direction changes.
 #![tactic(auto)]
 
