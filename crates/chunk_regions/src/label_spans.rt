@@ -181,29 +181,39 @@ fn first_reaching(rows: &RowSpans, from: usize, end: usize, column: u8) -> usize
     end
 }
 
-/// Gives the spans of one row their regions, side by side with those of the row before.
+/// Gives the spans of one row their regions, side by side with those of the row before, and says where they end: `start`
+/// is the place of the row's first span, and `south` that of the row before.
 #[inline(always)]
-fn number_row(rows: &RowSpans, all: &mut Numbered, chunk: Chunk, row: u16) -> Result<(), NoMemory>
+fn number_row(
+    rows: &RowSpans,
+    all: &mut Numbered,
+    chunk: Chunk,
+    row: u16,
+    south: usize,
+    start: usize,
+) -> Result<usize, NoMemory>
     requires here { row < CHUNK_SIDE }
     requires column { chunk.ci < MAX_CHUNKS_ALONG }
     requires row { chunk.cj < MAX_CHUNKS_ALONG }
+    requires south { south ≡ slice_index rows.now.starts (row - 1) }
+    requires start { start ≡ slice_index rows.now.starts row }
     requires next { length all.old.regions.items ≡ slice_index rows.now.starts row }
     requires bounded { AreBounded all.old.regions.items all.old.firsts.items }
     requires united { AreUnited rows.now all.old.regions.items (slice_index rows.now.starts row) }
+    ensures end { IfOk result (λ end. end ≡ slice_index rows.now.starts (row + 1)) }
     ensures length { OnOk result (length all.new.regions.items ≡ slice_index rows.now.starts (row + 1)) }
     ensures bounded { OnOk result (AreBounded all.new.regions.items all.new.firsts.items) }
     ensures united { OnOk result (AreUnited rows.now all.new.regions.items (slice_index rows.now.starts (row + 1))) }
     ensures groups { OnOk result (KeepsGroups chunk rows.now all.old.regions.items all.old.firsts.items
         all.new.regions.items all.new.firsts.items) }
 {
-    let (start, end) = rows.row(row);
-    // before the first row there is none, and `south` is where its own spans begin
-    let (mut south, _) = rows.row(row.saturating_sub(1));
+    let end = rows.start(row + 1) as usize;
+    let mut reached = south;
     for at in start..end {
-        south = first_reaching(rows, south, start, rows.span(at).first);
-        number_span(rows, all, chunk, Place { row, at }, south, start)?;
+        reached = first_reaching(rows, reached, start, rows.span(at).first);
+        number_span(rows, all, chunk, Place { row, at }, reached, start)?;
     }
-    Ok(())
+    Ok(end)
 }
 
 /// Numbers the regions of all spans.
@@ -220,8 +230,13 @@ pub fn number_all(alloc: Global, chunk: Chunk, rows: &RowSpans) -> Result<Number
         regions: Vec::with_capacity(alloc, rows.len())?,
         firsts: Vec::new(alloc),
     };
+    // before the first row there is none, and `south` is where its own spans begin
+    let mut south = 0;
+    let mut start = 0;
     for row in 0..CHUNK_SIDE {
-        number_row(rows, &mut all, chunk, row)?;
+        let end = number_row(rows, &mut all, chunk, row, south, start)?;
+        south = start;
+        start = end;
     }
     // the first cells are kept in no more room than they fill
     let firsts = Vec::from_slice(alloc, &all.firsts)?;

@@ -51,7 +51,7 @@ impl RowSpans {
     }
 
     /// The place of the first span of a row, and the count of all spans for `CHUNK_SIDE`.
-    fn start(&self, row: u16) -> u16
+    pub fn start(&self, row: u16) -> u16
         requires { row ≤ CHUNK_SIDE }
         ensures value { result ≡ slice_index self.now.starts row }
         ensures are { AreSpans self.now }

@@ -1,4 +1,4 @@
-use Rattle.std.proofs.Common.{◌≡◌, ◌∙◌, List, length, ap, sym, subst, arith}
+use Rattle.std.proofs.Common.{◌≡◌, ◌+◌, ◌-◌, ◌∙◌, List, length, ap, sym, subst, arith}
 use Rattle.std.specs.Prelude.{slice_index}
 use Rattle.nav_types.specs.declared.cells.Cell.{Cell}
 use Rattle.chunk_regions.specs.inner.Spans.{region_of}
@@ -13,6 +13,8 @@ number_row-requires c =
       here = c.loop-row-test.true;
       column = c.requires.column;
       row = c.requires.row;
+      south = kept.south;
+      start = kept.start;
       next = kept.next;
       bounded = kept.bounded;
       united = kept.united;
@@ -21,11 +23,14 @@ number_row-requires c =
 pub loop-row-preserved : goal.loop-row-preserved
 loop-row-preserved c =
     let kept = c.loop-row.invariant in
+    let here : c.loop-row.row ≡ c.loop-row.row + 1 - 1 = omega arith in
     record {
-      next = c.in_ok-number_row.ensures.length;
-      bounded = c.in_ok-number_row.ensures.bounded;
-      united = c.in_ok-number_row.ensures.united;
-      groups = λ passes cut. c.in_ok-number_row.ensures.groups passes cut (kept.groups passes cut);
+      south = subst (λ k. c.loop-row.start ≡ slice_index c.args.rows.now.starts k) here kept.start;
+      start = c.in_ok-end.ensures.end;
+      next = c.in_ok-end.ensures.length;
+      bounded = c.in_ok-end.ensures.bounded;
+      united = c.in_ok-end.ensures.united;
+      groups = λ passes cut. c.in_ok-end.ensures.groups passes cut (kept.groups passes cut);
     }
 
 pub returns-clause-bounded : goal.returns-clause-bounded

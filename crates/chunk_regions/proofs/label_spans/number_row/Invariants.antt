@@ -9,8 +9,8 @@ invariant-loop-at l = record {
   next : length l.all.regions.items ≡ l.at;
   bounded : AreBounded l.all.regions.items l.all.firsts.items;
   united : AreUnited l.rows l.all.regions.items l.at;
-  from : slice_index l.rows.starts (l.row - 1) ≤ l.south;
-  to : l.south ≤ l.start;
-  passed : (s n : Place) → Overlap l.rows s n → n.row ≡ l.row → l.at ≤ n.at → l.south ≤ s.at;
+  from : slice_index l.rows.starts (l.row - 1) ≤ l.reached;
+  to : l.reached ≤ l.start;
+  passed : (s n : Place) → Overlap l.rows s n → n.row ≡ l.row → l.at ≤ n.at → l.reached ≤ s.at;
   groups : KeepsGroups l.chunk l.rows l.initial.all.regions.items l.initial.all.firsts.items l.all.regions.items l.all.firsts.items;
 }
