@@ -1,5 +1,5 @@
 -- Bands of stops, and their lines.
-use Rattle.std.proofs.Common.{◌≡◌, ◌≢◌, ℕ, zero, suc, ◌+◌, ◌-◌, ◌*◌, ◌/◌, ◌%◌, ◌<◌, ◌≤◌, max, Bool, List, [], ◌∷◌, drop, length, get_or, length-append, inl, inr, sym, ap, ap₂, ◌∙◌, subst, ⊎_elim, arith}
+use Rattle.std.proofs.Common.{◌≡◌, ◌≢◌, ℕ, zero, suc, ◌+◌, ◌-◌, ◌*◌, ◌/◌, ◌%◌, ◌<◌, ◌≤◌, max, Bool, List, [], ◌∷◌, take, drop, length, get_or, length-append, inl, inr, sym, ap, ap₂, ◌∙◌, subst, ⊎_elim, arith}
 use Rattle.std.specs.Int.{bit_at}
 use Rattle.std.specs.Prelude.{All, ⊤}
 use Rattle.std.proofs.lemmas.Bool.{cases_lt, cases_eq}
@@ -10,7 +10,8 @@ use Rattle.nav_types.specs.declared.cells.Rect.{Rect}
 use Rattle.nav_types.specs.declared.straights.Way.{Way}
 use Rattle.class_planes.specs.inner.Lines.{LineTable, AreLines, line_at, line_in, patched}
 use Rattle.class_planes.specs.inner.Runs.{bit_in, LaneWords}
-use Rattle.class_planes.specs.inner.StopLines.{AreMapLines, AreBandStops, AreStops, AreStopsBefore, AreStopsWhere, IsBandStop, IsFarFrom, IsInTouchedWord, line_before, with_band}
+use Rattle.class_planes.specs.inner.StopLines.{AreMapLines, AreBandStops, AreStops, AreStopsBefore, AreStopsWhere, IsBandStop, IsFarFrom, IsInTouchedWord, line_before, with_band, with_bands}
+use Rattle.class_planes.proofs.LineLemmas.{each_in_range, range_long}
 use Rattle.class_planes.proofs.PlaneLemmas.{each_more}
 use Rattle.class_planes.proofs.ReadLemmas.{line_word, row_long}
 use Rattle.class_planes.proofs.TurnLemmas.{patched_here, patched_elsewhere}
@@ -191,6 +192,20 @@ stops_more way lines count bands old now band are more is =
       many = length-append old.bands (band ∷ []) ∙ omega (arith, are.many);
       each = each_more (λ (k : ℕ) (one : List ℕ). AreBandStops (λ n i. ⊤) way lines count (32 * k) one) old.bands band []
           bands are.many are.each is;
+    })
+
+-- some bands of another table more
+pub stops_shared : (way : Way) (lines : LineTable) (count start end : ℕ) (old now from : LineTable) → start ≤ end
+    → end ≤ length from.bands → AreStopsWhere (λ n i. ⊤) way lines count start old
+    → now ≡ with_bands old (take (end - start) (drop start from.bands))
+    → ((b : ℕ) → start ≤ b → b < end → AreBandStops (λ n i. ⊤) way lines count (32 * b) (get_or from.bands b []))
+    → AreStopsWhere (λ n i. ⊤) way lines count end now
+stops_shared way lines count start end old now from order within are more each =
+    subst (AreStopsWhere (λ n i. ⊤) way lines count end) (sym more) (record {
+      wide = are.wide;
+      many = range_long old.bands from.bands start end are.many order within;
+      each = each_in_range (λ (k : ℕ) (one : List ℕ). AreBandStops (λ n i. ⊤) way lines count (32 * k) one) old.bands
+          from.bands start end are.many are.each each;
     })
 
 -- a band that no rectangle comes near

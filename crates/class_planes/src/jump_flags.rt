@@ -1,8 +1,8 @@
 //! The stops of the runs up and down the lines of a map, in bands that several tables may share.
-ghost use Rattle.std.specs.Prelude.{ℕ, ⊤, false, ◌≡◌, ◌<◌, ◌≤◌, ◌*◌, ◌/◌, ◌%◌, ◌==◌, [], length, slice_index_or, IfOk, OnOk};
+ghost use Rattle.std.specs.Prelude.{ℕ, ⊤, false, ◌≡◌, ◌<◌, ◌≤◌, ◌*◌, ◌/◌, ◌%◌, ◌==◌, [], length, slice_index_or, slice_range, IfOk, OnOk};
 ghost use Rattle.nav_types.specs.declared.straights.Way.TheVariants as Way;
 ghost use Rattle.class_planes.specs.inner.Lines.{LineTable, AreLines, free_at, line_in};
-ghost use Rattle.class_planes.specs.inner.StopLines.{AreBandStops, AreStopsWhere, no_bands, stops_along, with_band};
+ghost use Rattle.class_planes.specs.inner.StopLines.{AreBandStops, AreStopsWhere, no_bands, stops_along, with_band, with_bands};
 ghost use Rattle.class_planes.specs.inner.Runs.{bit_in};
 
 use crate::lines::BAND;
@@ -81,6 +81,21 @@ impl JumpFlags {
         Ok(())
     }
 
+    /// Appends the bands of another table from one up to and without another, which both hold from then on.
+    fn share_span(&mut self, from: &JumpFlags, start: u16, end: u16) -> Result<(), NoMemory>
+        requires order { start ≤ end }
+        requires within { end ≤ length from.now.up.bands }
+        ensures even { length from.now.down.bands ≡ length from.now.up.bands }
+        ensures up { OnOk result
+            (self.new.up ≡ with_bands self.old.up (slice_range from.now.up.bands start end)) }
+        ensures down { OnOk result
+            (self.new.down ≡ with_bands self.old.down (slice_range from.now.down.bands start end)) }
+    {
+        self.bands
+            .extend_with_clones(&from.bands[usize::from(start)..usize::from(end)])?;
+        Ok(())
+    }
+
     /// The words of band `b` for the runs upwards.
     fn up_band(&self, b: u16) -> &[u64]
         requires { b < length self.now.up.bands }
@@ -141,9 +156,7 @@ pub fn share_stops(
         → AreBandStops (λ n i. ⊤) Way.Down lines count (32 * b) (slice_index_or from.now.down.bands b []))
         → AreStopsWhere (λ n i. ⊤) Way.Down lines count end stops.new.down) }
 {
-    for b in start..end {
-        stops.share(from, b)?;
-    }
+    stops.share_span(from, start, end)?;
     Ok(())
 }
 

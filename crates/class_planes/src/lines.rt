@@ -1,5 +1,5 @@
 //! Lines of bits in bands that several tables may share.
-ghost use Rattle.std.specs.Prelude.{ℕ, Bool, ◌≡◌, ◌<◌, ◌≤◌, ◌+◌, ◌*◌, ◌/◌, ◌%◌, ◌-◌, ◌++◌, ◌∷◌, ◌↔◌, [], length, slice_index_or, IfOk, OnOk, IsTrue};
+ghost use Rattle.std.specs.Prelude.{ℕ, Bool, ◌≡◌, ◌<◌, ◌≤◌, ◌+◌, ◌*◌, ◌/◌, ◌%◌, ◌-◌, ◌++◌, ◌∷◌, ◌↔◌, [], length, slice_index_or, slice_range, IfOk, OnOk, IsTrue};
 ghost use Rattle.std.specs.Int.{bit_at};
 ghost use Rattle.class_planes.specs.inner.Lines.{AreLines, IsBand, line_at, line_in, free_at};
 ghost use Rattle.class_planes.specs.inner.Runs.{bit_in};
@@ -78,6 +78,19 @@ impl Lines {
         Ok(())
     }
 
+    /// Appends the bands of other lines from one up to and without another, which both hold from then on.
+    fn share_span(&mut self, from: &Lines, start: u16, end: u16) -> Result<(), NoMemory>
+        requires order { start ≤ end }
+        requires within { end ≤ length from.now.bands }
+        ensures words { OnOk result (self.new.words ≡ self.old.words) }
+        ensures bands { OnOk result
+            (self.new.bands ≡ self.old.bands ++ slice_range from.now.bands start end) }
+    {
+        self.bands
+            .extend_with_clones(&from.bands[usize::from(start)..usize::from(end)])?;
+        Ok(())
+    }
+
     /// How many words a line has.
     pub fn words(&self) -> usize
         ensures { result ≡ self.now.words }
@@ -138,9 +151,7 @@ pub fn share_bands(from: &Lines, start: u16, end: u16, lines: &mut Lines) -> Res
         → ((b : ℕ) → start ≤ b → b < end → IsBand free (32 * b) words 32 (slice_index_or from.now.bands b []))
         → AreLines free end words lines.new) }
 {
-    for b in start..end {
-        lines.share(from, b)?;
-    }
+    lines.share_span(from, start, end)?;
     Ok(())
 }
 

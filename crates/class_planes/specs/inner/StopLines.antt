@@ -144,3 +144,7 @@ no_bands words = record { words = words; bands = [] }
 -- a table with one band more
 abbrev pub with_band : LineTable → List ℕ → LineTable
 with_band table band = record { words = table.words; bands = table.bands ++ band ∷ [] }
+
+-- a table with some bands more
+abbrev pub with_bands : LineTable → List (List ℕ) → LineTable
+with_bands table bands = record { words = table.words; bands = table.bands ++ bands }
