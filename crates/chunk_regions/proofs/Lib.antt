@@ -7,3 +7,4 @@ pub mod RowLemmas
 pub mod ChunkLemmas
 pub mod CopyLemmas
 pub mod RelabelLemmas
+pub mod GrownLemmas

@@ -6,7 +6,7 @@ ghost use Rattle.nav_types.specs.declared.limits.TheConstants.{CHUNK_SIDE, CHUNK
 ghost use Rattle.nav_types.specs.Cells.{cell_at};
 ghost use Rattle.chunk_regions.specs.declared.spans.Span.{Span};
 ghost use Rattle.chunk_regions.specs.inner.Spans.{Runs, IsPlace, IsCut, region_of};
-ghost use Rattle.chunk_regions.specs.inner.Joining.{Overlap, Reach, MeetsTo, AreUnited, KeepsOne, AreBounded, KeepsGroups, IsNumbered, number_after};
+ghost use Rattle.chunk_regions.specs.inner.Joining.{Overlap, Reach, MeetsTo, AreUnited, KeepsOne, AreBounded, AreGrown, KeepsGroups, IsNumbered, number_after};
 
 use crate::spans::{RowSpans, Span};
 use nav_types::limits::CHUNK_SIDE;
@@ -27,6 +27,14 @@ pub struct Numbered {
     pub firsts: Vec<Cell>,
 }
 
+/// The regions of the spans so far, and of each region in order the first cell and the place of the first span.
+#[derive(Drop)]
+struct Growing {
+    regions: Vec<u16>,
+    firsts: Vec<Cell>,
+    places: Vec<u16>,
+}
+
 /// The number of a region once regions `a` and `b` are one, which keeps the lower number `a`.
 #[inline(always)]
 fn renumbered(region: u16, a: u16, b: u16) -> u16
@@ -41,28 +49,41 @@ fn renumbered(region: u16, a: u16, b: u16) -> u16
     }
 }
 
-/// Makes one region of two, whose first cell is that of the one with the lower number `a`.
-#[inline(never)]
-fn unite(all: &mut Numbered, a: u16, b: u16)
-    requires order { a < b }
-    requires within { b ≤ length all.old.firsts.items }
-    ensures regions { all.new.regions.items ≡ map (number_after a b) all.old.regions.items }
-    ensures firsts { all.new.firsts.items ≡ remove all.old.firsts.items (b - 1) }
+/// Gives spans the regions that they have once regions `a` and `b` are one.
+fn renumber(regions: &mut [u16], a: u16, b: u16)
+    ensures { regions.new ≡ map (number_after a b) regions.old }
 {
-    for region in all.regions.iter_mut() {
+    for region in regions.iter_mut() {
         *region = renumbered(*region, a, b);
     }
-    all.firsts.remove(b as usize - 1);
+}
+
+/// Makes one region of two, whose first cell is that of the one with the lower number `a`.
+#[inline(never)]
+fn unite(all: &mut Growing, a: u16, b: u16)
+    requires order { a < b }
+    requires within { b ≤ length all.old.firsts.items }
+    requires grown { AreGrown all.old.regions.items all.old.firsts.items all.old.places.items }
+    ensures regions { all.new.regions.items ≡ map (number_after a b) all.old.regions.items }
+    ensures firsts { all.new.firsts.items ≡ remove all.old.firsts.items (b - 1) }
+    ensures places { all.new.places.items ≡ remove all.old.places.items (b - 1) }
+{
+    let place = b as usize - 1;
+    // the spans before its first one are of regions with lower numbers, which stay
+    let from = all.places[place] as usize;
+    renumber(&mut all.regions[from..], a, b);
+    all.firsts.remove(place);
+    all.places.remove(place);
 }
 
 /// Makes one region of those of two spans that overlap.
 #[inline(always)]
-fn join(all: &mut Numbered, south: usize, north: usize)
+fn join(all: &mut Growing, south: usize, north: usize)
     requires south { south < length all.old.regions.items }
     requires north { north < length all.old.regions.items }
-    requires bounded { AreBounded all.old.regions.items all.old.firsts.items }
+    requires grown { AreGrown all.old.regions.items all.old.firsts.items all.old.places.items }
     ensures length { length all.new.regions.items ≡ length all.old.regions.items }
-    ensures bounded { AreBounded all.new.regions.items all.new.firsts.items }
+    ensures grown { AreGrown all.new.regions.items all.new.firsts.items all.new.places.items }
     ensures kept { KeepsOne all.old.regions.items all.new.regions.items }
     ensures met { slice_index all.new.regions.items south ≡ slice_index all.new.regions.items north }
     ensures groups { (chunk : Chunk) (runs : Runs) (s n : Place) → Overlap runs s n → s.at ≡ south → n.at ≡ north
@@ -79,17 +100,17 @@ fn join(all: &mut Numbered, south: usize, north: usize)
 
 /// Joins the newest span with those from a place on that it overlaps in the row before.
 #[inline(always)]
-fn join_rest(rows: &RowSpans, all: &mut Numbered, place: Place, span: Span, from: usize, end: usize)
+fn join_rest(rows: &RowSpans, all: &mut Growing, place: Place, span: Span, from: usize, end: usize)
     requires place { IsPlace rows.now place }
     requires span { slice_get rows.now.spans place.at ≡ Some span }
     requires from { slice_index rows.now.starts (place.row - 1) ≤ from }
     requires end { end ≡ slice_index rows.now.starts place.row }
     requires next { length all.old.regions.items ≡ place.at + 1 }
-    requires bounded { AreBounded all.old.regions.items all.old.firsts.items }
+    requires grown { AreGrown all.old.regions.items all.old.firsts.items all.old.places.items }
     requires reach { Reach rows.now span.first from end }
     requires met { MeetsTo rows.now all.old.regions.items place from }
     ensures length { length all.new.regions.items ≡ length all.old.regions.items }
-    ensures bounded { AreBounded all.new.regions.items all.new.firsts.items }
+    ensures grown { AreGrown all.new.regions.items all.new.firsts.items all.new.places.items }
     ensures kept { KeepsOne all.old.regions.items all.new.regions.items }
     ensures met { MeetsTo rows.now all.new.regions.items place end }
     ensures groups { (chunk : Chunk) → KeepsGroups chunk rows.now all.old.regions.items all.old.firsts.items
@@ -106,20 +127,23 @@ fn join_rest(rows: &RowSpans, all: &mut Numbered, place: Place, span: Span, from
 
 /// Gives the newest span a region of its own: its first cell is then the region's first.
 #[inline(always)]
-fn begin(all: &mut Numbered, chunk: Chunk, place: Place, span: Span) -> Result<(), NoMemory>
+fn begin(all: &mut Growing, chunk: Chunk, place: Place, span: Span) -> Result<(), NoMemory>
     requires column { chunk.ci < MAX_CHUNKS_ALONG }
     requires row { chunk.cj < MAX_CHUNKS_ALONG }
     requires here { place.row < CHUNK_SIDE }
     requires few { length all.old.firsts.items < CHUNK_CELLS / 2 }
+    requires at { place.at < CHUNK_CELLS / 2 }
     ensures regions { OnOk result (all.new.regions.items
         ≡ all.old.regions.items ++ (length all.old.firsts.items + 1) ∷ []) }
     ensures firsts { OnOk result (all.new.firsts.items
         ≡ all.old.firsts.items ++ cell_at (CHUNK_SIDE * chunk.ci + span.first) (CHUNK_SIDE * chunk.cj + place.row) ∷ []) }
+    ensures places { OnOk result (all.new.places.items ≡ all.old.places.items ++ place.at ∷ []) }
 {
     all.firsts.push(Cell::new(
         chunk.ci * CHUNK_SIDE + u16::from(span.first),
         chunk.cj * CHUNK_SIDE + place.row,
     ))?;
+    all.places.push(place.at as u16)?;
     all.regions.push(all.firsts.len() as u16)?;
     Ok(())
 }
@@ -128,7 +152,7 @@ fn begin(all: &mut Numbered, chunk: Chunk, place: Place, span: Span) -> Result<(
 #[inline(always)]
 fn number_span(
     rows: &RowSpans,
-    all: &mut Numbered,
+    all: &mut Growing,
     chunk: Chunk,
     place: Place,
     south: usize,
@@ -143,10 +167,10 @@ fn number_span(
     requires reach { (span : Span) → slice_get rows.now.spans place.at ≡ Some span → Reach rows.now span.first south end }
     requires passed { (s : Place) → Overlap rows.now s place → south ≤ s.at }
     requires next { length all.old.regions.items ≡ place.at }
-    requires bounded { AreBounded all.old.regions.items all.old.firsts.items }
+    requires grown { AreGrown all.old.regions.items all.old.firsts.items all.old.places.items }
     requires united { AreUnited rows.now all.old.regions.items place.at }
     ensures length { OnOk result (length all.new.regions.items ≡ place.at + 1) }
-    ensures bounded { OnOk result (AreBounded all.new.regions.items all.new.firsts.items) }
+    ensures grown { OnOk result (AreGrown all.new.regions.items all.new.firsts.items all.new.places.items) }
     ensures united { OnOk result (AreUnited rows.now all.new.regions.items (place.at + 1)) }
     ensures groups { OnOk result (KeepsGroups chunk rows.now all.old.regions.items all.old.firsts.items
         all.new.regions.items all.new.firsts.items) }
@@ -186,7 +210,7 @@ fn first_reaching(rows: &RowSpans, from: usize, end: usize, column: u8) -> usize
 #[inline(always)]
 fn number_row(
     rows: &RowSpans,
-    all: &mut Numbered,
+    all: &mut Growing,
     chunk: Chunk,
     row: u16,
     south: usize,
@@ -198,11 +222,11 @@ fn number_row(
     requires south { south ≡ slice_index rows.now.starts (row - 1) }
     requires start { start ≡ slice_index rows.now.starts row }
     requires next { length all.old.regions.items ≡ slice_index rows.now.starts row }
-    requires bounded { AreBounded all.old.regions.items all.old.firsts.items }
+    requires grown { AreGrown all.old.regions.items all.old.firsts.items all.old.places.items }
     requires united { AreUnited rows.now all.old.regions.items (slice_index rows.now.starts row) }
     ensures end { IfOk result (λ end. end ≡ slice_index rows.now.starts (row + 1)) }
     ensures length { OnOk result (length all.new.regions.items ≡ slice_index rows.now.starts (row + 1)) }
-    ensures bounded { OnOk result (AreBounded all.new.regions.items all.new.firsts.items) }
+    ensures grown { OnOk result (AreGrown all.new.regions.items all.new.firsts.items all.new.places.items) }
     ensures united { OnOk result (AreUnited rows.now all.new.regions.items (slice_index rows.now.starts (row + 1))) }
     ensures groups { OnOk result (KeepsGroups chunk rows.now all.old.regions.items all.old.firsts.items
         all.new.regions.items all.new.firsts.items) }
@@ -226,9 +250,10 @@ pub fn number_all(alloc: Global, chunk: Chunk, rows: &RowSpans) -> Result<Number
     ensures numbered { IfOk result (λ all. (passes : Cell → Bool) → IsCut passes chunk rows.now
         → IsNumbered passes (region_of chunk rows.now all.regions.items) all.firsts.items) }
 {
-    let mut all = Numbered {
+    let mut all = Growing {
         regions: Vec::with_capacity(alloc, rows.len())?,
         firsts: Vec::new(alloc),
+        places: Vec::new(alloc),
     };
     // before the first row there is none, and `south` is where its own spans begin
     let mut south = 0;

@@ -48,6 +48,13 @@ pub record AreBounded (regions : List ℕ) (firsts : List Cell) : Type 0 where
   pub few : length firsts ≤ length regions
   pub within : (k : ℕ) → k < length regions → (1 ≤ slice_index regions k) × (slice_index regions k ≤ length firsts)
 
+-- the same, and each region has the place of its first span: the spans before it are of regions with lower numbers
+pub record AreGrown (regions : List ℕ) (firsts : List Cell) (places : List ℕ) : Type 0 where
+  pub bounded : AreBounded regions firsts
+  pub each : length places ≡ length firsts
+  pub begun : (r : ℕ) → r < length places → slice_index places r < length regions
+  pub lower : (r k : ℕ) → r < length places → k < slice_index places r → slice_index regions k ≤ r
+
 -- the number is 1 plus the place of a first cell that the cell is joined to, and that does not come after it
 pub record IsNumberAmong (passes : Cell → Bool) (firsts : List Cell) (cell : Cell) (number : ℕ) : Type 0 where
   pub place : ℕ

@@ -1,38 +1,41 @@
-use Rattle.std.proofs.Common.{ℕ, ◌≡◌, ◌∙◌, List, map, ap, sym, subst, arith}
-use Rattle.std.specs.Prelude.{slice_index}
+use Rattle.std.proofs.Common.{ℕ, ◌≡◌, ◌-◌, ◌∙◌, List, map, ap, sym, subst, arith}
+use Rattle.std.specs.Prelude.{remove, slice_index}
 use Rattle.std.proofs.lemmas.Grind.{get_or_default_zero}
 use Rattle.nav_types.specs.declared.cells.Cell.{Cell}
-use Rattle.chunk_regions.specs.inner.Joining.{AreBounded, AreGroups, number_after}
-use Rattle.chunk_regions.proofs.GroupLemmas.{AreBounded-join, AreGroups-north, AreGroups-south}
+use Rattle.chunk_regions.specs.inner.Joining.{AreGrown, AreGroups, number_after}
+use Rattle.chunk_regions.proofs.GroupLemmas.{AreGroups-north, AreGroups-south}
+use Rattle.chunk_regions.proofs.GrownLemmas.{AreGrown-join}
 use Rattle.chunk_regions.proofs.label_spans.join.Goals as goal
 
-pub returns-then-a-b-clause-bounded : goal.returns-then-a-b-clause-bounded
-returns-then-a-b-clause-bounded c =
+pub returns-then-a-b-clause-grown : goal.returns-then-a-b-clause-grown
+returns-then-a-b-clause-grown c =
     let regions = c.args.all.now.regions.items in
     let firsts = c.args.all.now.firsts.items in
     let a = c.index-a.result.now in
     let b = c.index-b.result.now in
     let is_a : a ≡ slice_index regions c.args.south = c.index-a.ensures ∙ get_or_default_zero regions c.args.south a c.requires.south in
     let is_b : b ≡ slice_index regions c.args.north = c.index-b.ensures ∙ get_or_default_zero regions c.args.north b c.requires.north in
-    let least = c.requires.bounded.within c.args.south c.requires.south in
-    let most = c.requires.bounded.within c.args.north c.requires.north in
-    subst (λ (ns : List ℕ). AreBounded ns c.unite.new.all.firsts.items) (sym c.unite.ensures.regions)
-    (subst (λ (cells : List Cell). AreBounded (map (number_after a b) regions) cells) (sym c.unite.ensures.firsts)
-    (AreBounded-join regions firsts a b (omega arith) c.if-a-b.true (omega arith) c.requires.bounded))
+    let least = c.requires.grown.bounded.within c.args.south c.requires.south in
+    let most = c.requires.grown.bounded.within c.args.north c.requires.north in
+    subst (λ (ns : List ℕ). AreGrown ns c.unite.new.all.firsts.items c.unite.new.all.places.items) (sym c.unite.ensures.regions)
+    (subst (λ (cells : List Cell). AreGrown (map (number_after a b) regions) cells c.unite.new.all.places.items) (sym c.unite.ensures.firsts)
+    (subst (λ (places : List ℕ). AreGrown (map (number_after a b) regions) (remove firsts (b - 1)) places) (sym c.unite.ensures.places)
+    (AreGrown-join regions firsts c.args.all.now.places.items a b (omega arith) c.if-a-b.true (omega arith) c.requires.grown)))
 
-pub returns-then-b-a-clause-bounded : goal.returns-then-b-a-clause-bounded
-returns-then-b-a-clause-bounded c =
+pub returns-then-b-a-clause-grown : goal.returns-then-b-a-clause-grown
+returns-then-b-a-clause-grown c =
     let regions = c.args.all.now.regions.items in
     let firsts = c.args.all.now.firsts.items in
     let a = c.index-a.result.now in
     let b = c.index-b.result.now in
     let is_a : a ≡ slice_index regions c.args.south = c.index-a.ensures ∙ get_or_default_zero regions c.args.south a c.requires.south in
     let is_b : b ≡ slice_index regions c.args.north = c.index-b.ensures ∙ get_or_default_zero regions c.args.north b c.requires.north in
-    let least = c.requires.bounded.within c.args.north c.requires.north in
-    let most = c.requires.bounded.within c.args.south c.requires.south in
-    subst (λ (ns : List ℕ). AreBounded ns c.unite-then-b-a.new.all.firsts.items) (sym c.unite-then-b-a.ensures.regions)
-    (subst (λ (cells : List Cell). AreBounded (map (number_after b a) regions) cells) (sym c.unite-then-b-a.ensures.firsts)
-    (AreBounded-join regions firsts b a (omega arith) c.if-b-a.true (omega arith) c.requires.bounded))
+    let least = c.requires.grown.bounded.within c.args.north c.requires.north in
+    let most = c.requires.grown.bounded.within c.args.south c.requires.south in
+    subst (λ (ns : List ℕ). AreGrown ns c.unite-then-b-a.new.all.firsts.items c.unite-then-b-a.new.all.places.items) (sym c.unite-then-b-a.ensures.regions)
+    (subst (λ (cells : List Cell). AreGrown (map (number_after b a) regions) cells c.unite-then-b-a.new.all.places.items) (sym c.unite-then-b-a.ensures.firsts)
+    (subst (λ (places : List ℕ). AreGrown (map (number_after b a) regions) (remove firsts (a - 1)) places) (sym c.unite-then-b-a.ensures.places)
+    (AreGrown-join regions firsts c.args.all.now.places.items b a (omega arith) c.if-b-a.true (omega arith) c.requires.grown)))
 
 pub returns-then-a-b-clause-groups : goal.returns-then-a-b-clause-groups
 returns-then-a-b-clause-groups c = λ chunk runs s n o at_s at_n passes cut groups.

@@ -33,7 +33,7 @@ loop-south-preserved c =
     let before : Place = record { row = place.row - 1; at = south } in
     record {
       same_length = c.join.ensures.length ∙ same_length;
-      bounded = c.join.ensures.bounded;
+      grown = c.join.ensures.grown;
       kept = λ k l k_in l_in same. c.join.ensures.kept k l (omega arith) (omega arith) (kept.kept k l k_in l_in same);
       met = λ s over to. elim (cases_lt s.at south) [
         | inl less ↦

@@ -16,7 +16,7 @@ number_row-requires c =
       south = kept.south;
       start = kept.start;
       next = kept.next;
-      bounded = kept.bounded;
+      grown = kept.grown;
       united = kept.united;
     }
 
@@ -28,7 +28,7 @@ loop-row-preserved c =
       south = subst (λ k. c.loop-row.start ≡ slice_index c.args.rows.now.starts k) here kept.start;
       start = c.in_ok-end.ensures.end;
       next = c.in_ok-end.ensures.length;
-      bounded = c.in_ok-end.ensures.bounded;
+      grown = c.in_ok-end.ensures.grown;
       united = c.in_ok-end.ensures.united;
       groups = λ passes cut. c.in_ok-end.ensures.groups passes cut (kept.groups passes cut);
     }
@@ -36,7 +36,7 @@ loop-row-preserved c =
 pub returns-clause-bounded : goal.returns-clause-bounded
 returns-clause-bounded c =
     subst (λ (items : List Cell). AreBounded c.loop-row.all.regions.items items) (sym (c.in_ok-firsts.ensures.items ∙ c.deref.ensures.value))
-    c.loop-row.invariant.bounded
+    c.loop-row.invariant.grown.bounded
 
 pub returns-clause-numbered : goal.returns-clause-numbered
 returns-clause-numbered c = λ passes cut.
@@ -62,4 +62,4 @@ returns-clause-few c =
     let are = c.len.ensures.are in
     let same : length c.in_ok-firsts.firsts.items ≡ length c.loop-row.all.firsts.items =
     ap length (c.in_ok-firsts.ensures.items ∙ c.deref.ensures.value) in
-    omega (arith, same, c.loop-row.invariant.bounded.few, c.loop-row.invariant.next, last, are.all, are.few)
+    omega (arith, same, c.loop-row.invariant.grown.bounded.few, c.loop-row.invariant.next, last, are.all, are.few)

@@ -2,7 +2,7 @@ use Rattle.std.proofs.Common.{Bool, ◌≡◌, ◌-◌, length}
 use Rattle.std.specs.Prelude.{slice_index}
 use Rattle.nav_types.specs.declared.cells.Cell.{Cell}
 use Rattle.chunk_regions.specs.inner.Spans.{IsCut}
-use Rattle.chunk_regions.specs.inner.Joining.{AreUnited, AreBounded, AreGroups}
+use Rattle.chunk_regions.specs.inner.Joining.{AreUnited, AreGrown, AreGroups}
 use Rattle.chunk_regions.proofs.label_spans.number_all.Given as goal
 
 abbrev pub invariant-loop-row : goal.invariant-loop-row
@@ -10,7 +10,7 @@ invariant-loop-row l = record {
   south : l.south ≡ slice_index l.rows.starts (l.row - 1);
   start : l.start ≡ slice_index l.rows.starts l.row;
   next : length l.all.regions.items ≡ slice_index l.rows.starts l.row;
-  bounded : AreBounded l.all.regions.items l.all.firsts.items;
+  grown : AreGrown l.all.regions.items l.all.firsts.items l.all.places.items;
   united : AreUnited l.rows l.all.regions.items (slice_index l.rows.starts l.row);
   groups : (passes : Cell → Bool) → IsCut passes l.chunk l.rows → AreGroups passes l.chunk l.rows l.all.regions.items l.all.firsts.items;
 }

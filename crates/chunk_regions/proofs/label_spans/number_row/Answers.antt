@@ -20,7 +20,7 @@ loop-at-init c =
     let rise = subst (λ k. slice_index runs.starts (row - 1) ≤ slice_index runs.starts k) to (starts_rise runs c.start-end.ensures.are (row - 1) (row - (row - 1)) (omega arith)) in
     record {
       next = c.requires.next ∙ sym start;
-      bounded = c.requires.bounded;
+      grown = c.requires.grown;
       united = subst (λ k. AreUnited runs c.args.all.now.regions.items k) (sym start) c.requires.united;
       from = omega (arith, south);
       to = omega (arith, south, start, rise);
@@ -77,7 +77,7 @@ loop-at-preserved c =
     let rises = c.span.ensures.ordered in
     record {
       next = c.in_ok-number_span.ensures.length;
-      bounded = c.in_ok-number_span.ensures.bounded;
+      grown = c.in_ok-number_span.ensures.grown;
       united = c.in_ok-number_span.ensures.united;
       from = omega arith;
       to = c.first_reaching-reached.ensures.to;

@@ -1,13 +1,13 @@
 use Rattle.std.proofs.Common.{◌≡◌, ◌≤◌, ◌-◌, length}
 use Rattle.std.specs.Prelude.{slice_index}
 use Rattle.chunk_regions.specs.declared.label_spans.Place.{Place}
-use Rattle.chunk_regions.specs.inner.Joining.{Overlap, AreUnited, AreBounded, KeepsGroups}
+use Rattle.chunk_regions.specs.inner.Joining.{Overlap, AreUnited, AreGrown, KeepsGroups}
 use Rattle.chunk_regions.proofs.label_spans.number_row.Given as goal
 
 abbrev pub invariant-loop-at : goal.invariant-loop-at
 invariant-loop-at l = record {
   next : length l.all.regions.items ≡ l.at;
-  bounded : AreBounded l.all.regions.items l.all.firsts.items;
+  grown : AreGrown l.all.regions.items l.all.firsts.items l.all.places.items;
   united : AreUnited l.rows l.all.regions.items l.at;
   from : slice_index l.rows.starts (l.row - 1) ≤ l.reached;
   to : l.reached ≤ l.start;

@@ -4,19 +4,21 @@ use Rattle.std.proofs.lemmas.Grind.{get_or_default_zero}
 use Rattle.nav_types.specs.declared.cells.Cell.{Cell}
 use Rattle.nav_types.specs.Cells.{cell_at}
 use Rattle.chunk_regions.specs.declared.label_spans.Place.{Place}
-use Rattle.chunk_regions.specs.inner.Joining.{Overlap, MeetsTo, AreUnited, AreBounded, AreGroups}
-use Rattle.chunk_regions.proofs.GroupLemmas.{AreGroups-begin, AreGroups-follow, AreBounded-begin, AreBounded-follow, AreUnited-longer, AreUnited-kept, AreUnited-last, MeetsTo-follow, overlap_from, overlap_to, overlaps_before}
+use Rattle.chunk_regions.specs.inner.Joining.{Overlap, MeetsTo, AreUnited, AreGrown, AreGroups}
+use Rattle.chunk_regions.proofs.GroupLemmas.{AreGroups-begin, AreGroups-follow, AreUnited-longer, AreUnited-kept, AreUnited-last, MeetsTo-follow, overlap_from, overlap_to, overlaps_before}
+use Rattle.chunk_regions.proofs.GrownLemmas.{AreGrown-begin, AreGrown-follow}
 use Rattle.chunk_regions.proofs.label_spans.number_span.Goals.{then-south-end-via-then-south-end, then-south-end-via-else-south-end+then-span}
 use Rattle.chunk_regions.proofs.label_spans.number_span.Goals as goal
 
-pub returns-then-south-end-clause-bounded : goal.returns-then-south-end-clause-bounded
-returns-then-south-end-clause-bounded c =
+pub returns-then-south-end-clause-grown : goal.returns-then-south-end-clause-grown
+returns-then-south-end-clause-grown c =
     let regions = c.args.all.now.regions.items in
     let firsts = c.args.all.now.firsts.items in
     let cell = cell_at (96 * c.args.chunk.ci + c.span-span.result.first) (96 * c.args.chunk.cj + c.args.place.row) in
-    subst (λ (ns : List ℕ). AreBounded ns c.begin.new.all.firsts.items) (sym c.in_ok-begin.ensures.regions)
-    (subst (λ (cells : List Cell). AreBounded (regions ++ (length firsts + 1) ∷ []) cells) (sym c.in_ok-begin.ensures.firsts)
-    (AreBounded-begin regions firsts cell c.requires.bounded))
+    subst (λ (ns : List ℕ). AreGrown ns c.begin.new.all.firsts.items c.begin.new.all.places.items) (sym c.in_ok-begin.ensures.regions)
+    (subst (λ (cells : List Cell). AreGrown (regions ++ (length firsts + 1) ∷ []) cells c.begin.new.all.places.items) (sym c.in_ok-begin.ensures.firsts)
+    (subst (λ (places : List ℕ). AreGrown (regions ++ (length firsts + 1) ∷ []) (firsts ++ cell ∷ []) places) (sym c.in_ok-begin.ensures.places)
+    (AreGrown-begin regions firsts c.args.all.now.places.items cell c.args.place.at c.requires.next c.requires.grown)))
 
 pub returns-then-south-end-clause-united : goal.returns-then-south-end-clause-united
 returns-then-south-end-clause-united c =
@@ -54,8 +56,8 @@ returns-then-south-end-clause-groups c = λ passes cut groups.
     (subst (λ (cells : List Cell). AreGroups passes chunk runs (regions ++ n ∷ []) cells) (sym c.in_ok-begin.ensures.firsts)
     (AreGroups-begin passes chunk runs regions firsts place span cut c.requires.place c.span-span.ensures.value c.requires.next groups))
 
-pub join_rest-requires-clause-bounded : goal.join_rest-requires-clause-bounded
-join_rest-requires-clause-bounded c =
+pub join_rest-requires-clause-grown : goal.join_rest-requires-clause-grown
+join_rest-requires-clause-grown c =
     let regions = c.args.all.now.regions.items in
     let firsts = c.args.all.now.firsts.items in
     let south = c.args.south in
@@ -66,8 +68,9 @@ join_rest-requires-clause-bounded c =
     let next = c.requires.next in
     let apart = c.if-south-end.false in
     let before : south < length regions = omega arith in
-    subst (λ (ns : List ℕ). AreBounded ns firsts) (sym c.in_ok-push.ensures.items)
-    (AreBounded-follow regions firsts south n before (c.index-region.ensures ∙ get_or_default_zero regions south n before) c.requires.bounded)
+    let places = c.args.all.now.places.items in
+    subst (λ (ns : List ℕ). AreGrown ns firsts places) (sym c.in_ok-push.ensures.items)
+    (AreGrown-follow regions firsts places south n before (c.index-region.ensures ∙ get_or_default_zero regions south n before) c.requires.grown)
 
 pub join_rest-requires-clause-met : goal.join_rest-requires-clause-met
 join_rest-requires-clause-met c =
