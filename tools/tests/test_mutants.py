@@ -1,7 +1,8 @@
-"""The list of wrong programs in bench/mutants.txt: it fits the sources, and is over all crates of the program."""
+"""The list of wrong programs in bench/mutants.txt: it fits the sources, and is over all crates of the program. So do wrong bodies."""
 import importlib.machinery
 import importlib.util
 import os
+import pathlib
 import sys
 import unittest
 
@@ -10,9 +11,17 @@ from places import PROGRAM, TOP, needs_program
 sys.path.append(os.path.join(TOP, "bench"))
 import trials  # noqa: E402
 
-LOADER = importlib.machinery.SourceFileLoader("mutants", os.path.join(TOP, "bench", "mutants"))
-mutants = importlib.util.module_from_spec(importlib.util.spec_from_loader("mutants", LOADER))
-LOADER.exec_module(mutants)
+
+
+def command(name):
+    """A command of bench/ as a module."""
+    loader = importlib.machinery.SourceFileLoader(name, os.path.join(TOP, "bench", name))
+    module = importlib.util.module_from_spec(importlib.util.spec_from_loader(name, loader))
+    loader.exec_module(module)
+    return module
+
+
+mutants, wrong_bodies = command("mutants"), command("wrong_bodies")
 
 
 def crates_of_the_program():
@@ -45,6 +54,17 @@ class Mutants(unittest.TestCase):
         # of the library's own crates those alone can be tried that have tests of their own
         for crate in tried - crates_of_the_program():
             self.assertTrue(os.path.isdir(os.path.join(TOP, "tests", crate)), crate)
+
+
+class WrongBodies(unittest.TestCase):
+    def test_each_line_stands_once_in_its_file(self):
+        edits = sorted(pathlib.Path(TOP, "crates").glob("*/must-fail/*.edit")) + [it for its in wrong_bodies.listed().values() for it in its]
+        self.assertGreaterEqual(len(edits), 40)
+        for edit in edits:
+            pieces = list(wrong_bodies.pieces(edit))
+            self.assertTrue(pieces, edit)
+            for file, old in pieces:
+                self.assertEqual(file.read_text(encoding="utf-8").count(old), 1, edit)
 
 
 class Rows(unittest.TestCase):

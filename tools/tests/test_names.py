@@ -13,7 +13,7 @@ TYPE = re.compile(r"^\s*(?:pub(?:\([a-z ]+\))? )?(?:struct|enum|trait) (\w+)", r
 # A shape out of its limits, of a goal and of an obstruction.
 SHARED = {"BadShape"}
 # Names inside a crate that another crate has for another type: to be renamed when the crate is proved again.
-INNER = {"Areas", "Marks", "Turn", "Wanted"}
+INNER = {"Wanted"}
 
 
 def sources():

@@ -54,7 +54,7 @@ fn right_of(dir: Dir) -> Dir {
 
 /// A side of a straight step: the directions an eighth, a quarter and three eighths of a turn from its own.
 #[derive(Clone, Copy)]
-struct Turn {
+struct StepSide {
     ahead: Dir,
     aside: Dir,
     behind: Dir,
@@ -62,11 +62,11 @@ struct Turn {
 
 /// The left side.
 #[inline(always)]
-fn turn_left(dir: Dir) -> Turn {
+fn turn_left(dir: Dir) -> StepSide {
     let ahead = left_of(dir);
     let aside = left_of(ahead);
     let behind = left_of(aside);
-    Turn {
+    StepSide {
         ahead,
         aside,
         behind,
@@ -75,11 +75,11 @@ fn turn_left(dir: Dir) -> Turn {
 
 /// The right side.
 #[inline(always)]
-fn turn_right(dir: Dir) -> Turn {
+fn turn_right(dir: Dir) -> StepSide {
     let ahead = right_of(dir);
     let aside = right_of(ahead);
     let behind = right_of(aside);
-    Turn {
+    StepSide {
         ahead,
         aside,
         behind,
@@ -208,7 +208,7 @@ impl TableSpread {
 
     /// Goes on to a side, where a wall on that side of the place before forces it.
     #[inline(always)]
-    fn turn(&mut self, width: usize, at: usize, turn: Turn) -> Result<(), NoMemory>
+    fn turn(&mut self, width: usize, at: usize, turn: StepSide) -> Result<(), NoMemory>
         requires inner { IsInner width at self.old.marks.items }
         requires room { HasRoom self.old.marks.items }
         ensures { OnOk result (Spreads self.old.marks.items self.new.marks.items) }

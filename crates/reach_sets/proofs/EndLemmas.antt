@@ -7,7 +7,7 @@ use Rattle.std.proofs.lemmas.List.Elements.{All-get_or, All-more, All-weaker, Al
 use Rattle.reach_sets.specs.declared.regions.RegionId.{RegionId}
 use Rattle.reach_sets.specs.RegionOrder.{place}
 use Rattle.reach_sets.specs.inner.Forests.{IsForest}
-use Rattle.reach_sets.specs.inner.Marks.{is_marked, marked_before}
+use Rattle.reach_sets.specs.inner.EndMarks.{is_marked, marked_before}
 use Rattle.reach_sets.specs.inner.Linked.{IsEnd, HasMarks, AreEnds, ArePlaces, children_before}
 use Rattle.reach_sets.proofs.MarkLemmas.{same_number}
 

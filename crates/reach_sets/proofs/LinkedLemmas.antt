@@ -7,7 +7,7 @@ use Rattle.std.proofs.lemmas.List.FromFn.{length-map-range_with_len, get_or-map-
 use Rattle.reach_sets.specs.declared.regions.RegionId.{RegionId}
 use Rattle.reach_sets.specs.AreaNumbers.{AreAreas}
 use Rattle.reach_sets.specs.inner.Forests.{IsForest, AreRootNumbers}
-use Rattle.reach_sets.specs.inner.Marks.{is_marked, marked_before}
+use Rattle.reach_sets.specs.inner.EndMarks.{is_marked, marked_before}
 use Rattle.reach_sets.specs.inner.Linked.{ArePlaces, all_parents, IsEndForest, children_before, AreChildCounts, AreEndAreas, area_at, all_areas, FitMarks}
 use Rattle.reach_sets.proofs.MarkLemmas.{before_le, before_below, before_grows, before_marked, before_other, nth_marked, nth_is, nth_of}
 use Rattle.reach_sets.proofs.SpreadLemmas.{place_is, nth_rises, spread_long, spread_other, spread_marked, spread_forest}

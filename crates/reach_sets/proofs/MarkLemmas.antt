@@ -6,7 +6,7 @@ use Rattle.std.proofs.lemmas.Bool.{cases_order, cases_eq, cases_lt, cases_Bool, 
 use Rattle.std.proofs.lemmas.List.{get_or_read}
 use Rattle.std.proofs.lemmas.Nat.{mod-pow-add, ones_cat, ones_le_self, pow_pos, one_shl, and_mask}
 use Rattle.std.proofs.lemmas.Nat.Bits.{bit_at_set_same, bit_at_set_other, bit_at-lt}
-use Rattle.reach_sets.specs.inner.Marks.{is_marked, marked_before, AreCounts}
+use Rattle.reach_sets.specs.inner.EndMarks.{is_marked, marked_before, AreCounts}
 
 -- ---- how the count grows
 

@@ -8,7 +8,7 @@ use Rattle.reach_sets.specs.declared.regions.RegionId.{RegionId}
 use Rattle.reach_sets.specs.RegionOrder.{IsRegion, place}
 use Rattle.reach_sets.specs.AreaNumbers.{IsLink, AreJoined}
 use Rattle.reach_sets.specs.inner.Forests.{IsForest, HasParent, AreInOneTree}
-use Rattle.reach_sets.specs.inner.Marks.{is_marked, marked_before}
+use Rattle.reach_sets.specs.inner.EndMarks.{is_marked, marked_before}
 use Rattle.reach_sets.specs.inner.Linked.{HasMarks, AreEnds, ArePlaces, parent_at, all_parents, IsEndForest}
 use Rattle.reach_sets.proofs.ChainLemmas.{chained_self, chained_once, chained_to}
 use Rattle.reach_sets.proofs.LinkLemmas.{ByLinks, HoldLinks, together}

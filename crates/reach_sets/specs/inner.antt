@@ -1,5 +1,5 @@
 pub mod RowStarts
 pub mod Forests
-pub mod Marks
+pub mod EndMarks
 pub mod Linked
 pub mod Holding

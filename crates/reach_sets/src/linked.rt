@@ -4,11 +4,11 @@ ghost use Rattle.reach_sets.specs.declared.regions.RegionId.{RegionId};
 ghost use Rattle.reach_sets.specs.RegionOrder.{IsRegion, place};
 ghost use Rattle.reach_sets.specs.AreaNumbers.{AreAreas};
 ghost use Rattle.reach_sets.specs.inner.Forests.{IsForest};
-ghost use Rattle.reach_sets.specs.inner.Marks.{is_marked, marked_before};
+ghost use Rattle.reach_sets.specs.inner.EndMarks.{is_marked, marked_before};
 ghost use Rattle.reach_sets.specs.inner.Linked.{AreEnds, IsEndForest, AreChildCounts, AreEndAreas};
 
 use crate::forests::{apart, join};
-use crate::marks::{Marks, WORD, mark};
+use crate::marks::{EndMarks, WORD, mark};
 use crate::offsets::Offsets;
 use crate::regions::RegionId;
 use nav_types::NoMemory;
@@ -20,7 +20,7 @@ use std::marker::Model;
 #[derive(Drop)]
 pub struct LinkedAreas {
     // the regions with links, by their places
-    marks: Marks,
+    marks: EndMarks,
     // the area of each of them
     areas: Vec<u32>,
     // for each number of them, how many of the first that many are not the first of their area
@@ -67,7 +67,7 @@ pub fn linked_areas(
 {
     let regions = offsets.total();
     let words = words_of(alloc, offsets, links)?;
-    let marks = Marks::new(alloc, words)?;
+    let marks = EndMarks::new(alloc, words)?;
     let forest = end_forest(alloc, offsets, &marks, links)?;
     let places = forest.places.as_slice();
     let parents = forest.parents.as_slice();
@@ -124,7 +124,7 @@ struct EndForest {
 fn end_forest(
     alloc: Global,
     offsets: &Offsets,
-    marks: &Marks,
+    marks: &EndMarks,
     links: &[(RegionId, RegionId)],
 ) -> Result<EndForest, NoMemory>
     requires exist { All (λ link. IsRegion offsets.now link.0 × IsRegion offsets.now link.1) links.now }
@@ -144,7 +144,7 @@ fn join_ends(
     places: &mut [u32],
     parents: &mut [u32],
     offsets: &Offsets,
-    marks: &Marks,
+    marks: &EndMarks,
     links: &[(RegionId, RegionId)],
 )
     requires exist { All (λ link. IsRegion offsets.now link.0 × IsRegion offsets.now link.1) links.now }
@@ -163,7 +163,7 @@ fn join_ends(
 }
 
 /// The number of a region among those with links, from 0. Its place is written down there.
-fn end_of(places: &mut [u32], offsets: &Offsets, marks: &Marks, id: RegionId) -> u32
+fn end_of(places: &mut [u32], offsets: &Offsets, marks: &EndMarks, id: RegionId) -> u32
     requires region { IsRegion offsets.now id }
     requires wide { length marks.now ≡ sum offsets.now / 64 + 1 }
     requires marked { IsTrue (is_marked marks.now (place offsets.now id)) }

@@ -1,6 +1,6 @@
 //! Places of a row that are marked, by bits, with the number of marked places before each word.
 ghost use Rattle.std.specs.Prelude.{ℕ, ◌≡◌, ◌<◌, ◌≤◌, ◌/◌, ◌^◌, ◌||◌, ◌==◌, length, IfOk};
-ghost use Rattle.reach_sets.specs.inner.Marks.{is_marked, marked_before, AreCounts};
+ghost use Rattle.reach_sets.specs.inner.EndMarks.{is_marked, marked_before, AreCounts};
 
 use nav_types::NoMemory;
 use std::alloc::Global;
@@ -19,15 +19,15 @@ pub fn mark(words: &mut [u64], place: u32)
 
 /// The marked places of a row. Contracts see the words with their bits.
 #[derive(Drop)]
-pub struct Marks {
+pub struct EndMarks {
     words: Vec<u64>,
     // for each word how many places are marked before its own
     before: Vec<u32>,
 }
 
-impl Model for Marks {
+impl Model for EndMarks {
     ghost use Rattle.std.specs.Prelude.{ℕ, List};
-    ghost use Rattle.reach_sets.specs.inner.Marks.{AreCounts};
+    ghost use Rattle.reach_sets.specs.inner.EndMarks.{AreCounts};
 
     ghost Value = { List ℕ };
 
@@ -36,14 +36,14 @@ impl Model for Marks {
     ghost invariant = { λ m. AreCounts m.words.items m.before.items };
 }
 
-impl Marks {
+impl EndMarks {
     /// The marks of these words.
-    pub fn new(alloc: Global, words: Vec<u64>) -> Result<Marks, NoMemory>
+    pub fn new(alloc: Global, words: Vec<u64>) -> Result<EndMarks, NoMemory>
         requires { length words.items ≤ 2 ^ 26 }
         ensures { IfOk result (λ marks. marks ≡ words.items) }
     {
         let before = counts_before(alloc, &words)?;
-        Ok(Marks { words, before })
+        Ok(EndMarks { words, before })
     }
 
     /// How many places before this one are marked.

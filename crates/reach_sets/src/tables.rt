@@ -21,13 +21,13 @@ const REGIONS_A_LINK: u32 = 8;
 #[derive(Drop)]
 pub struct AreaTable {
     offsets: Offsets,
-    areas: Areas,
+    areas: AreaLists,
     count: u32,
 }
 
 /// How the areas are held: each region's, or, where few regions have links, of these alone.
 #[derive(Drop)]
-enum Areas {
+enum AreaLists {
     Each(Vec<u32>),
     Linked(LinkedAreas),
 }
@@ -62,7 +62,7 @@ impl AreaTable {
             let (areas, count) = linked_areas(alloc, &offsets, links.as_slice())?;
             return Ok(AreaTable {
                 offsets,
-                areas: Areas::Linked(areas),
+                areas: AreaLists::Linked(areas),
                 count,
             });
         }
@@ -70,7 +70,7 @@ impl AreaTable {
         let count = number_trees(&mut areas);
         Ok(AreaTable {
             offsets,
-            areas: Areas::Each(areas),
+            areas: AreaLists::Each(areas),
             count,
         })
     }
@@ -87,8 +87,8 @@ impl AreaTable {
         }
         let place = self.offsets.place_of(region);
         match &self.areas {
-            Areas::Each(areas) => areas[place as usize],
-            Areas::Linked(areas) => areas.at(place),
+            AreaLists::Each(areas) => areas[place as usize],
+            AreaLists::Linked(areas) => areas.at(place),
         }
     }
 

@@ -4,7 +4,7 @@ use Rattle.std.specs.List.{range_with_len}
 use Rattle.reach_sets.specs.declared.regions.RegionId.{RegionId}
 use Rattle.reach_sets.specs.RegionOrder.{place}
 use Rattle.reach_sets.specs.inner.Forests.{IsForest, IsForestOf}
-use Rattle.reach_sets.specs.inner.Marks.{is_marked, marked_before}
+use Rattle.reach_sets.specs.inner.EndMarks.{is_marked, marked_before}
 
 -- the place is that of a region at an end of a link
 abbrev pub IsEnd : List ℕ → List (RegionId × RegionId) → ℕ → Type 0

@@ -1,6 +1,6 @@
 use Rattle.std.proofs.Common.{sum, ap, arith}
 use Rattle.reach_sets.specs.RegionOrder.{place}
-use Rattle.reach_sets.specs.inner.Marks.{marked_before}
+use Rattle.reach_sets.specs.inner.EndMarks.{marked_before}
 use Rattle.reach_sets.proofs.MarkLemmas.{before_below}
 use Rattle.reach_sets.proofs.RowLemmas.{place_inside}
 use Rattle.reach_sets.proofs.linked.end_of.Goals as goal

@@ -4,7 +4,7 @@ use Rattle.std.proofs.lemmas.List.{take_all}
 use Rattle.std.proofs.lemmas.List.Elements.{All-get_or}
 use Rattle.reach_sets.specs.declared.regions.RegionId.{RegionId}
 use Rattle.reach_sets.specs.RegionOrder.{IsRegion, place}
-use Rattle.reach_sets.specs.inner.Marks.{marked_before}
+use Rattle.reach_sets.specs.inner.EndMarks.{marked_before}
 use Rattle.reach_sets.specs.inner.Linked.{HasMarks}
 use Rattle.reach_sets.proofs.EndLemmas.{IsNoted, noted_more, places_noted}
 use Rattle.reach_sets.proofs.LinkLemmas.{HoldLinks, links_more}

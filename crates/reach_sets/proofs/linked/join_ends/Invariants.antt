@@ -2,7 +2,7 @@ use Rattle.std.proofs.Common.{take, sum}
 use Rattle.std.specs.Prelude.{All}
 use Rattle.reach_sets.specs.RegionOrder.{place}
 use Rattle.reach_sets.specs.inner.Forests.{IsForest}
-use Rattle.reach_sets.specs.inner.Marks.{marked_before}
+use Rattle.reach_sets.specs.inner.EndMarks.{marked_before}
 use Rattle.reach_sets.proofs.LinkLemmas.{ByLinks, HoldLinks}
 use Rattle.reach_sets.proofs.MarkLemmas.{nth_marked}
 use Rattle.reach_sets.proofs.RowLemmas.{region_from}

@@ -1,6 +1,6 @@
 use Rattle.std.proofs.Common.{ℕ, take}
 use Rattle.std.specs.Prelude.{All, IsTrue}
-use Rattle.reach_sets.specs.inner.Marks.{is_marked}
+use Rattle.reach_sets.specs.inner.EndMarks.{is_marked}
 use Rattle.reach_sets.specs.inner.Linked.{HasMarks, IsEnd}
 use Rattle.reach_sets.proofs.linked.mark_ends.Given as goal
 

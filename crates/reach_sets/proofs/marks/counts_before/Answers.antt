@@ -1,5 +1,5 @@
 use Rattle.std.proofs.Common.{◌≡◌, ◌+◌, ◌*◌, ℕ, ap, sym, length, ◌∙◌, arith}
-use Rattle.reach_sets.specs.inner.Marks.{marked_before}
+use Rattle.reach_sets.specs.inner.EndMarks.{marked_before}
 use Rattle.reach_sets.proofs.EndLemmas.{counts_more}
 use Rattle.reach_sets.proofs.MarkLemmas.{before_le, before_next_word}
 use Rattle.reach_sets.proofs.marks.counts_before.Goals as goal

@@ -1,6 +1,6 @@
 use Rattle.std.proofs.Common.{◌≡◌, ◌≤◌, ◌<◌, ◌*◌, ℕ, length, get_or}
 use Rattle.std.specs.Prelude.{vec_capacity}
-use Rattle.reach_sets.specs.inner.Marks.{marked_before}
+use Rattle.reach_sets.specs.inner.EndMarks.{marked_before}
 use Rattle.reach_sets.proofs.marks.counts_before.Given as goal
 
 abbrev pub invariant-loop-word : goal.invariant-loop-word

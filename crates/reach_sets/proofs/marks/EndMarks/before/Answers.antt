@@ -1,6 +1,6 @@
 use Rattle.std.proofs.Common.{arith}
 use Rattle.reach_sets.proofs.MarkLemmas.{before_le, before_read}
-use Rattle.reach_sets.proofs.marks.Marks.before.Goals as goal
+use Rattle.reach_sets.proofs.marks.EndMarks.before.Goals as goal
 
 pub overflow_add-result : goal.overflow_add-result
 overflow_add-result c =
