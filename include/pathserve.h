@@ -415,7 +415,7 @@ enum { /* pathserve_reply.kind */
     PATHSERVE_TOO_FAR = 9    /* a path costs more than it may: of a find within a greatest cost, and never of a turn */
 };
 enum { /* pathserve_reply.why of a refusal; 0 in other replies */
-    PATHSERVE_BAD_SHAPE = 1,     /* a shape or a goal is past its limits */
+    PATHSERVE_BAD_SHAPE = 1,     /* a goal is past its limits, or an obstruction, or off the map */
     PATHSERVE_DUPLICATE_ID = 2,  /* there is an obstruction with this number already */
     PATHSERVE_STORE_FULL = 3,    /* there are 65,536 obstructions */
     PATHSERVE_UNKNOWN_ID = 4,    /* there is no obstruction with this number */

@@ -201,7 +201,7 @@ class Replays(Pretender):
         maker = check.Maker(9)
         for n in range(25):
             script = maker.script()
-            word = replays.WORDS[n % 4]
+            word = replays.WORDS[n % len(replays.WORDS)]
             answers, status = check.predicted(script, word)
             self.match(f"{n}", script, answers)
             head = f"answers {replays.number_of_answers(PROGRAM)} word {word} status {status} turns {answers.count(b'turn ')}"
