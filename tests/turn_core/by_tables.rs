@@ -10,7 +10,7 @@ use jump_search::Pool;
 use nav_types::{Cell, Class, Cost, Rect, View};
 use std::alloc::Global;
 use std::test::*;
-use turn_core::{Answer, Request, solve, solve_within};
+use turn_core::{Answer, PathRequest, Request, solve, solve_within};
 
 /// The sides of a map with a pillar on each cell whose column and row are odd. Steps lead along the other rows and columns
 /// alone, and at each of their 165 crossings a walk may turn.
@@ -56,7 +56,7 @@ fn tables_of(version: &Version) -> usize {
 
 /// The path along the middle row, from its first cell to its last one.
 fn path_along() -> Option<Request> {
-    Some(Request::Path {
+    Some(Request::Path(PathRequest {
         class: ClassName::new(b"ca")?,
         x: Fixed::centre(0),
         z: Fixed::centre(MIDDLE),
@@ -64,7 +64,7 @@ fn path_along() -> Option<Request> {
             x: Fixed::centre(SIDES[0] - 1),
             z: Fixed::centre(MIDDLE),
         }),
-    })
+    }))
 }
 
 /// How many tables there are after the path, where it goes straight along the row.

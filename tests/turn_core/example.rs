@@ -7,7 +7,7 @@ use grid_versions::{BaseRects, MapSpec};
 use nav_types::{Cost, Size};
 use posts::{empty_lists, push_post};
 use std::test::*;
-use turn_core::{Answer, OneThread, Post, Reply, Request, bare_version};
+use turn_core::{Answer, OneThread, PathRequest, Post, Reply, Request, bare_version};
 
 #[test]
 fn example(rt: HostRuntime) {
@@ -31,12 +31,12 @@ fn example(rt: HostRuntime) {
         x: navcells(4),
         z: navcells(3),
     });
-    let path = Request::Path {
+    let path = Request::Path(PathRequest {
         class,
         x: navcells(0),
         z: navcells(0),
         goal,
-    };
+    });
     let mut lists = empty_lists(alloc, 1).expect(&rt, "memory");
     push_post(&mut lists, 0, Post::Ask(path)).expect(&rt, "memory");
 

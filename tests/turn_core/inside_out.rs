@@ -10,7 +10,7 @@ use grid_versions::Version;
 use nav_types::{Cell, Class, View};
 use std::alloc::Global;
 use std::test::*;
-use turn_core::{Answer, Request, solve};
+use turn_core::{Answer, PathRequest, Request, solve};
 use walks::plain_search;
 
 /// Maps with walls, rooms, gaps and ways that lead round.
@@ -54,12 +54,12 @@ fn middle_of(place: u16) -> Fixed {
 
 /// Asks for a path from the middle of a cell.
 fn asked_from(cell: Cell, goal: &Goal) -> Option<Request> {
-    Some(Request::Path {
+    Some(Request::Path(PathRequest {
         class: ClassName::new(b"ca")?,
         x: middle_of(cell.i),
         z: middle_of(cell.j),
         goal: GoalSpec::Plain(*goal),
-    })
+    }))
 }
 
 /// Counts the path from a passable cell.

@@ -15,8 +15,8 @@ use posts::push_some;
 use std::alloc::Global;
 use std::test::*;
 use turn_core::{
-    Answer, Answerer, Jobs, Journal, OneThread, Post, Posts, ReadyTurn, RegionAnswer, Reply,
-    Report, Request, TurnPosts, TurnReplies, answer_turn, bare_version, one_thread, solve,
+    Answer, Answerer, Jobs, Journal, OneThread, Post, Posts, ReadyTurn, RegionAnswer, RegionQuery,
+    Reply, Report, Request, TurnPosts, TurnReplies, answer_turn, bare_version, one_thread, solve,
 };
 
 /// The goal that is a circle about a point of the row, in halves.
@@ -39,11 +39,11 @@ fn about(id: u32, grow: i16) -> GoalSpec {
 /// Asks for the region at a point of the row in halves.
 fn region_asked(name: &str, x: i16) -> Option<Request> {
     let class = ClassName::new(name.as_bytes())?;
-    Some(Request::Region {
+    Some(Request::Region(RegionQuery {
         class,
         x: halves(x),
         z: halves(1),
-    })
+    }))
 }
 
 /// The posts of a caller who posts once.

@@ -262,9 +262,11 @@ path_found_fits m standing class x z (Ok goal) answer is = path_to_fits m standi
 
 pub answer_fits : (m : Map) (standing : Standing) (request : Request) (answer : Answer) → IsAnswerTo m standing request answer → AnswerFits m.size answer
 unfolding IsAnswerTo
-answer_fits m standing (AsksPath name x z goal) answer is =
-    fits_at m.size (class_named m name) (is_on_map m.size x z) (λ class. IsPathFound (passable_at m standing class) x z (goal_found m standing goal)) answer
-    (λ class on found. path_found_fits m standing class x z (goal_found m standing goal) answer found) is
-answer_fits m standing (AsksRegion name x z) answer is =
-    fits_at m.size (class_named m name) (is_on_map m.size x z) (λ class. IsRegionAt (passable_at m standing class) x z) answer
-    (λ class on region. subst (AnswerFits m.size) (sym region.1.0) (region_fits m standing class x z region.0 on region.1.1)) is
+answer_fits m standing (AsksPath request) answer is =
+    let goal = goal_found m standing request.goal in
+    fits_at m.size (class_named m request.class) (is_on_map m.size request.x request.z)
+    (λ class. IsPathFound (passable_at m standing class) request.x request.z goal) answer
+    (λ class on found. path_found_fits m standing class request.x request.z goal answer found) is
+answer_fits m standing (AsksRegion query) answer is =
+    fits_at m.size (class_named m query.class) (is_on_map m.size query.x query.z) (λ class. IsRegionAt (passable_at m standing class) query.x query.z) answer
+    (λ class on region. subst (AnswerFits m.size) (sym region.1.0) (region_fits m standing class query.x query.z region.0 on region.1.1)) is

@@ -16,7 +16,6 @@ use Rattle.nav_types.proofs.Items.{Contains-head, Contains-tail, Contains-cons_c
 use Rattle.nav_types.proofs.Regions.{lies_in}
 use Rattle.nav_types.proofs.Walking.{Joined-passes}
 use Rattle.goal_shapes.specs.declared.goals.Goal.{Goal}
-use Rattle.goal_shapes.specs.declared.goals.GoalSpec.{GoalSpec}
 use Rattle.goal_reach.specs.declared.targets.Target.{Target}
 use Rattle.goal_reach.specs.Targets.{hit_by}
 use Rattle.walks.proofs.Tracing.{chosen_walk}
@@ -28,6 +27,7 @@ use Rattle.posts.specs.declared.notes.Note.{Note}
 use Rattle.posts.specs.declared.notes.Report.{Report}
 use Rattle.posts.specs.declared.notes.Report.TheVariants.{Answers, OpenedNumbers, Flows, Smoothed as SmoothedPaths}
 use Rattle.posts.specs.declared.posts.Request.{Request}
+use Rattle.posts.specs.declared.posts.PathRequest.{PathRequest}
 use Rattle.posts.specs.declared.posts.Request.TheVariants.{Path as AsksPath, Region as AsksRegion}
 use Rattle.posts.specs.declared.replies.PathAnswer.{PathAnswer}
 use Rattle.posts.specs.declared.replies.Answer.{Answer}
@@ -37,7 +37,7 @@ use Rattle.posts.specs.Maps.{Map}
 use Rattle.grid_versions.specs.Passing.{passable_at}
 use Rattle.turn_core.specs.Words.{Standing, TellsNumbers}
 use Rattle.turn_core.specs.NamedGoals.{class_named, is_on_map, goal_found}
-use Rattle.turn_core.specs.Solving.{IsPathFound, IsAnswerAt, IsAnswerTo}
+use Rattle.turn_core.specs.Solving.{IsPathFound, IsPathAsked, IsAnswerAt, IsAnswerTo}
 use Rattle.turn_core.specs.Notes.{IsTold, IsPathNote, IsNoteBy, IsNote}
 use Rattle.answer_laws.specs.WordFits.{PathFits, AnswerFits, NoteFits, NumbersFit}
 use Rattle.answer_laws.proofs.Distances.{HasAll}
@@ -232,20 +232,19 @@ told_fits SmoothedPaths passes size whole target path note passing fits told =
     (point_kept (path.start ∷ path.waypoints) points smoothing.kept smoothing.placed (get_or points k d) (Contains-get_or points k d low)) in
     subst (NoteFits size) (sym told.1.0) all
 
-path_note_fits : (m : Map) (standing : Standing) (report : Report) (name : List ℕ) (x z : ℤ) (goal : GoalSpec) (answer : Answer) (note : Note)
-    → AnswerFits m.size answer
-    → IsAnswerAt (class_named m name) (is_on_map m.size x z) (λ class. IsPathFound (passable_at m standing class) x z (goal_found m standing goal)) answer
-    → IsNoteBy (IsPathNote m standing report name goal) answer note → NoteFits m.size note
-path_note_fits m standing report name x z goal (Refused refusal) note fits is by = subst (NoteFits m.size) (sym by) tt
-path_note_fits m standing report name x z goal Nowhere note fits is by = subst (NoteFits m.size) (sym by) tt
-path_note_fits m standing report name x z goal (IsRegion region) note fits is by = subst (NoteFits m.size) (sym by) tt
-path_note_fits m standing report name x z goal (IsPath path) note fits is by =
-    let passing = start_passes (class_named m name) (is_on_map m.size x z) (passable_at m standing) x z (goal_found m standing goal) path by.class by.named is in
+path_note_fits : (m : Map) (standing : Standing) (report : Report) (request : PathRequest) (answer : Answer) (note : Note)
+    → AnswerFits m.size answer → IsPathAsked m standing request answer → IsNoteBy (IsPathNote m standing report request) answer note → NoteFits m.size note
+path_note_fits m standing report request (Refused refusal) note fits is by = subst (NoteFits m.size) (sym by) tt
+path_note_fits m standing report request Nowhere note fits is by = subst (NoteFits m.size) (sym by) tt
+path_note_fits m standing report request (IsRegion region) note fits is by = subst (NoteFits m.size) (sym by) tt
+path_note_fits m standing report request (IsPath path) note fits is by =
+    let passing = start_passes (class_named m request.class) (is_on_map m.size request.x request.z) (passable_at m standing) request.x request.z
+    (goal_found m standing request.goal) path by.class by.named is in
     told_fits report (passable_at m standing by.class) m.size (has_all m standing by.class) by.noted.target path note passing fits by.noted.told
 
 pub note_fits : (m : Map) (standing : Standing) (report : Report) (request : Request) (note : Note) → IsNote m standing report request note
     → NoteFits m.size note
 unfolding IsNote IsAnswerTo
-note_fits m standing report (AsksPath name x z goal) note is =
-    path_note_fits m standing report name x z goal is.0 note (answer_fits m standing (AsksPath name x z goal) is.0 is.1.0) is.1.0 is.1.1
-note_fits m standing report (AsksRegion name x z) note is = subst (NoteFits m.size) (sym is.1.1) tt
+note_fits m standing report (AsksPath request) note is =
+    path_note_fits m standing report request is.0 note (answer_fits m standing (AsksPath request) is.0 is.1.0) is.1.0 is.1.1
+note_fits m standing report (AsksRegion query) note is = subst (NoteFits m.size) (sym is.1.1) tt

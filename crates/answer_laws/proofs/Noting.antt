@@ -6,7 +6,6 @@ use Rattle.nav_types.specs.Cells.{IsInside}
 use Rattle.nav_types.specs.Walks.{CanReach}
 use Rattle.nav_types.proofs.Walking.{IsWalk-passes}
 use Rattle.goal_shapes.specs.declared.goals.Goal.{Goal}
-use Rattle.goal_shapes.specs.declared.goals.GoalSpec.{GoalSpec}
 use Rattle.goal_shapes.specs.inner.Framing.{contains_framed}
 use Rattle.goal_reach.specs.declared.targets.Target.{Target}
 use Rattle.goal_reach.specs.declared.targets.Target.TheVariants.{Goal as GoalTarget, Near}
@@ -22,6 +21,7 @@ use Rattle.posts.specs.declared.notes.Note.TheVariants.{Nothing, Opened, Flow, S
 use Rattle.posts.specs.declared.notes.Report.{Report}
 use Rattle.posts.specs.declared.notes.Report.TheVariants.{Answers, OpenedNumbers, Flows, Smoothed as SmoothedPaths}
 use Rattle.posts.specs.declared.posts.Request.{Request}
+use Rattle.posts.specs.declared.posts.PathRequest.{PathRequest}
 use Rattle.posts.specs.declared.posts.Request.TheVariants.{Path as AsksPath, Region as AsksRegion}
 use Rattle.posts.specs.declared.replies.PathAnswer.{PathAnswer}
 use Rattle.posts.specs.declared.replies.Answer.{Answer}
@@ -78,18 +78,19 @@ module _ (passes : Cell → Bool) (size : Size) (cells : List Cell) (whole : Has
       (note.0, record { target = is.target; targets = is.targets; told = note.1 })
 
 -- an answer to a path request, with its note
-abbrev NotedPath : Map → Standing → Report → List ℕ → ℤ → ℤ → GoalSpec → Option ℕ → Bool → Result Goal Refusal → Type 0
-NotedPath m standing report name x z spec named on_map goal = (answer : Answer) × ((note : Note)
-    × (IsAnswerAt named on_map (λ class. IsPathFound (passable_at m standing class) x z goal) answer
-    × IsNoteBy (IsPathNote m standing report name spec) answer note))
+abbrev NotedPath : Map → Standing → Report → PathRequest → Option ℕ → Bool → Result Goal Refusal → Type 0
+NotedPath m standing report request named on_map goal = (answer : Answer) × ((note : Note)
+    × (IsAnswerAt named on_map (λ class. IsPathFound (passable_at m standing class) request.x request.z goal) answer
+    × IsNoteBy (IsPathNote m standing report request) answer note))
 
-path_noted : (m : Map) (standing : Standing) (report : Report) (name : List ℕ) (x z : ℤ) (spec : GoalSpec)
-    (named : Option ℕ) → class_named m name ≡ named → (on_map : Bool) (goal : Result Goal Refusal) → goal_found m standing spec ≡ goal
-    → NotedPath m standing report name x z spec named on_map goal
-path_noted m standing report name x z spec None known on_map goal is = (Refused UnknownClass, (Nothing, (refl, refl)))
-path_noted m standing report name x z spec (Some class) known false goal is = (Refused StartOutside, (Nothing, (refl, refl)))
-path_noted m standing report name x z spec (Some class) known true (Err refusal) is = (Refused refusal, (Nothing, (refl, refl)))
-path_noted m standing report name x z spec (Some class) known true (Ok goal) is =
+path_noted : (m : Map) (standing : Standing) (report : Report) (request : PathRequest)
+    (named : Option ℕ) → class_named m request.class ≡ named → (on_map : Bool) (goal : Result Goal Refusal) → goal_found m standing request.goal ≡ goal
+    → NotedPath m standing report request named on_map goal
+path_noted m standing report request None known on_map goal is = (Refused UnknownClass, (Nothing, (refl, refl)))
+path_noted m standing report request (Some class) known false goal is = (Refused StartOutside, (Nothing, (refl, refl)))
+path_noted m standing report request (Some class) known true (Err refusal) is = (Refused refusal, (Nothing, (refl, refl)))
+path_noted m standing report request (Some class) known true (Ok goal) is =
+    let x = request.x in let z = request.z in
     let passes : Cell → Bool = passable_at m standing class in
     let cells = cells_of m.size in
     let whole = has_all m standing class in
@@ -111,11 +112,12 @@ path_noted m standing report name x z spec (Some class) known true (Ok goal) is 
 
 pub note_to : (m : Map) (standing : Standing) (report : Report) (request : Request) → (note : Note) × IsNote m standing report request note
 unfolding IsNote IsAnswerTo
-note_to m standing report (AsksPath name x z goal) =
-    let noted = path_noted m standing report name x z goal (class_named m name) refl (is_on_map m.size x z) (goal_found m standing goal) refl in
+note_to m standing report (AsksPath request) =
+    let noted = path_noted m standing report request (class_named m request.class) refl (is_on_map m.size request.x request.z)
+    (goal_found m standing request.goal) refl in
     (noted.1.0, (noted.0, (noted.1.1.0, noted.1.1.1)))
-note_to m standing report (AsksRegion name x z) =
-    let answer = region_answer m standing name x z in (Nothing, (answer.0, (answer.1, refl)))
+note_to m standing report (AsksRegion query) =
+    let answer = region_answer m standing query in (Nothing, (answer.0, (answer.1, refl)))
 
 pub notes_to : (m : Map) (standing : Standing) (report : Report) (requests : List Request)
     → (notes : List Note) × AreNotes m standing report requests notes

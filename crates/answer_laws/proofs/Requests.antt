@@ -21,6 +21,7 @@ use Rattle.goal_reach.specs.Targets.{is_cell, hit_by, AreTargets}
 use Rattle.posts.specs.declared.edits.Refusal.{Refusal}
 use Rattle.posts.specs.declared.edits.Refusal.TheVariants.{UnknownClass, StartOutside}
 use Rattle.posts.specs.declared.posts.Request.{Request}
+use Rattle.posts.specs.declared.posts.RegionQuery.{RegionQuery}
 use Rattle.posts.specs.declared.posts.Request.TheVariants.{Path as AsksPath, Region as AsksRegion}
 use Rattle.posts.specs.declared.replies.PathAnswer.{PathAnswer}
 use Rattle.posts.specs.declared.replies.RegionAnswer.{RegionAnswer}
@@ -32,7 +33,7 @@ use Rattle.grid_versions.specs.inner.PassingLaws.{passes_within}
 use Rattle.grid_versions.specs.Versions.{map_state}
 use Rattle.turn_core.specs.Words.{Standing}
 use Rattle.turn_core.specs.NamedGoals.{class_named, is_on_map, goal_found}
-use Rattle.turn_core.specs.Solving.{IsImpassable, is_near, IsPathAnswer, IsPathTo, IsPathFound, IsRegionAt, IsAnswerAt, IsAnswerTo}
+use Rattle.turn_core.specs.Solving.{IsImpassable, is_near, IsPathAnswer, IsPathTo, IsPathFound, IsRegionAt, IsRegionAsked, IsAnswerAt, IsAnswerTo}
 use Rattle.turn_core.proofs.FoundGoals.{on_map_decides}
 use Rattle.answer_laws.proofs.Deciding.{Decided, decided_test, decided_both, decided_as, some_in}
 use Rattle.answer_laws.proofs.Listing.{cells_of, in_cells_of}
@@ -166,16 +167,17 @@ pub has_all : (m : Map) (standing : Standing) (class : ℕ) → HasAll (passable
 has_all m standing class cell passing = in_cells_of m.size cell (passes_within (map_state m standing) class cell passing)
 
 -- the answer to a region query
-pub region_answer : (m : Map) (standing : Standing) (name : List ℕ) (x z : ℤ)
-    → (answer : Answer) × IsAnswerAt (class_named m name) (is_on_map m.size x z) (λ class. IsRegionAt (passable_at m standing class) x z) answer
-region_answer m standing name x z =
-    answer_at (class_named m name) (is_on_map m.size x z) (λ class. IsRegionAt (passable_at m standing class) x z)
+pub region_answer : (m : Map) (standing : Standing) (query : RegionQuery) → (answer : Answer) × IsRegionAsked m standing query answer
+region_answer m standing query =
+    let x = query.x in let z = query.z in
+    answer_at (class_named m query.class) (is_on_map m.size x z) (λ class. IsRegionAt (passable_at m standing class) x z)
     (λ on class. region_at (passable_at m standing class) (cells_of m.size) (has_all m standing class) x z (point_holder m.size x z on))
 
 pub answer_to : (m : Map) (standing : Standing) (request : Request) → (answer : Answer) × IsAnswerTo m standing request answer
 unfolding IsAnswerTo
-answer_to m standing (AsksPath name x z goal) =
-    answer_at (class_named m name) (is_on_map m.size x z)
-    (λ class. IsPathFound (passable_at m standing class) x z (goal_found m standing goal))
-    (λ on class. path_found (passable_at m standing class) (cells_of m.size) (has_all m standing class) x z (goal_found m standing goal))
-answer_to m standing (AsksRegion name x z) = region_answer m standing name x z
+answer_to m standing (AsksPath request) =
+    let x = request.x in let z = request.z in let goal = goal_found m standing request.goal in
+    answer_at (class_named m request.class) (is_on_map m.size x z)
+    (λ class. IsPathFound (passable_at m standing class) x z goal)
+    (λ on class. path_found (passable_at m standing class) (cells_of m.size) (has_all m standing class) x z goal)
+answer_to m standing (AsksRegion query) = region_answer m standing query

@@ -7,7 +7,7 @@ use fixed_point::{Fixed, Rectangle};
 use goal_shapes::{Goal, GoalSpec};
 use nav_types::NoMemory;
 use obstruction_shapes::{Obstruction, Shape};
-use posts::{Edit, Post, Posts, Request, push_post};
+use posts::{Edit, PathRequest, Post, Posts, RegionQuery, Request, push_post};
 
 /// The number of the wall among the standing obstructions.
 const WALL: u32 = 1;
@@ -38,7 +38,7 @@ fn wall() -> Edit {
 
 /// A path of infantry from the south-west to within one navcell of the wall.
 fn to_the_wall(class: ClassName) -> Post {
-    Post::Ask(Request::Path {
+    Post::Ask(Request::Path(PathRequest {
         class,
         x: halves(3),
         z: halves(3),
@@ -46,12 +46,12 @@ fn to_the_wall(class: ClassName) -> Post {
             id: WALL,
             grow: halves(2),
         },
-    })
+    }))
 }
 
 /// A path of a siege engine from the east to a circle in the west.
 fn westwards(class: ClassName) -> Post {
-    Post::Ask(Request::Path {
+    Post::Ask(Request::Path(PathRequest {
         class,
         x: halves(21),
         z: halves(7),
@@ -60,7 +60,7 @@ fn westwards(class: ClassName) -> Post {
             z: halves(7),
             r: halves(2),
         }),
-    })
+    }))
 }
 
 /// Turn 1: one player builds a wall and sends infantry to it; the other asks for a path and for the region of a place.
@@ -73,11 +73,11 @@ pub fn post_first(lists: &mut Vec<Posts>, classes: &Classes) -> Result<(), NoMem
     push_post(
         lists,
         1,
-        Post::Ask(Request::Region {
+        Post::Ask(Request::Region(RegionQuery {
             class: classes.siege,
             x: halves(13),
             z: halves(7),
-        }),
+        })),
     )
 }
 

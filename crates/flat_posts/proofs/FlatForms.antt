@@ -1,5 +1,5 @@
 -- A flat form reads as its post, whatever the caller, and so a flat post is one post of one caller.
-use Rattle.std.proofs.Common.{◌≡◌, ℕ, List, Option, Some, None, refl, ap, sym, ◌∙◌, Bool, true, false, cond}
+use Rattle.std.proofs.Common.{◌≡◌, ℕ, ℤ, List, Some, None, refl, ap, sym, ◌∙◌}
 use Rattle.std.specs.Prelude.{option_map, option_and_then}
 use Rattle.class_config.specs.declared.table.PassabilityClass.{PassabilityClass}
 use Rattle.class_config.specs.Classes.{name_at}
@@ -16,7 +16,8 @@ use Rattle.posts.specs.declared.posts.Request.{Request}
 use Rattle.posts.specs.declared.posts.Request.TheVariants.{Path, Region}
 use Rattle.posts.specs.Maps.{Map}
 use Rattle.flat_posts.specs.declared.posted.FlatPost.{FlatPost}
-use Rattle.flat_posts.specs.Posts.{IsPost, HasClass, flat_post, flat_edit, flat_add, flat_request, asked_class}
+use Rattle.flat_posts.specs.declared.post_kinds.TheConstants.{PATH}
+use Rattle.flat_posts.specs.Posts.{IsPost, HasClass, flat_post, flat_edit, flat_add, flat_request, asked_at, asked_class, with_goal}
 use Rattle.flat_posts.specs.inner.Reading.{HasSameNumbers, HasSamePlaces, HasSameShape, edit_in, request_in, post_in, post_from}
 
 -- ---- each form reads back
@@ -30,32 +31,55 @@ edit_in-flat_edit caller (Add id obstruction) = edit_in-flat_add caller id obstr
 edit_in-flat_edit caller (Remove id) = refl
 edit_in-flat_edit caller (Move id x z) = refl
 
+-- a flat path with each kind of goal
+abbrev path_with : (caller class : ℕ) (x z : ℤ) (goal : GoalSpec) → FlatPost
+path_with caller class x z goal = with_goal (asked_at PATH caller class x z) goal
+
+no_edit_to : (caller class : ℕ) (x z : ℤ) (goal : GoalSpec) → edit_in (path_with caller class x z goal) ≡ None
+no_edit_to caller class x z (Plain (Point gx gz)) = refl
+no_edit_to caller class x z (Plain (Circle gx gz r)) = refl
+no_edit_to caller class x z (Plain (NotCircle gx gz r)) = refl
+no_edit_to caller class x z (Plain (SquareGoal r)) = refl
+no_edit_to caller class x z (Plain (NotSquare r)) = refl
+no_edit_to caller class x z (AboutObstruction id grow) = refl
+
 no_edit : (caller class : ℕ) (request : Request) → edit_in (flat_request caller class request) ≡ None
-no_edit caller class (Path name x z (Plain (Point gx gz))) = refl
-no_edit caller class (Path name x z (Plain (Circle gx gz r))) = refl
-no_edit caller class (Path name x z (Plain (NotCircle gx gz r))) = refl
-no_edit caller class (Path name x z (Plain (SquareGoal r))) = refl
-no_edit caller class (Path name x z (Plain (NotSquare r))) = refl
-no_edit caller class (Path name x z (AboutObstruction id grow)) = refl
-no_edit caller class (Region name x z) = refl
+no_edit caller class (Path request) = no_edit_to caller class request.x request.z request.goal
+no_edit caller class (Region query) = refl
+
+request_to : (caller class : ℕ) (name : List ℕ) (x z : ℤ) (goal : GoalSpec)
+    → request_in (path_with caller class x z goal) name ≡ Some (Path (record { class = name; x = x; z = z; goal = goal }))
+request_to caller class name x z (Plain (Point gx gz)) = refl
+request_to caller class name x z (Plain (Circle gx gz r)) = refl
+request_to caller class name x z (Plain (NotCircle gx gz r)) = refl
+request_to caller class name x z (Plain (SquareGoal r)) = refl
+request_to caller class name x z (Plain (NotSquare r)) = refl
+request_to caller class name x z (AboutObstruction id grow) = refl
 
 request_in-flat_request : (caller class : ℕ) (request : Request) → request_in (flat_request caller class request) (asked_class request) ≡ Some request
-request_in-flat_request caller class (Path name x z (Plain (Point gx gz))) = refl
-request_in-flat_request caller class (Path name x z (Plain (Circle gx gz r))) = refl
-request_in-flat_request caller class (Path name x z (Plain (NotCircle gx gz r))) = refl
-request_in-flat_request caller class (Path name x z (Plain (SquareGoal r))) = refl
-request_in-flat_request caller class (Path name x z (Plain (NotSquare r))) = refl
-request_in-flat_request caller class (Path name x z (AboutObstruction id grow)) = refl
-request_in-flat_request caller class (Region name x z) = refl
+request_in-flat_request caller class (Path request) = request_to caller class request.class request.x request.z request.goal
+request_in-flat_request caller class (Region query) = refl
+
+-- a goal leaves the caller and the class of a flat post as they are
+caller_with_goal : (flat : FlatPost) (goal : GoalSpec) → (with_goal flat goal).caller ≡ flat.caller
+caller_with_goal flat (Plain (Point gx gz)) = refl
+caller_with_goal flat (Plain (Circle gx gz r)) = refl
+caller_with_goal flat (Plain (NotCircle gx gz r)) = refl
+caller_with_goal flat (Plain (SquareGoal r)) = refl
+caller_with_goal flat (Plain (NotSquare r)) = refl
+caller_with_goal flat (AboutObstruction id grow) = refl
+
+class_with_goal : (flat : FlatPost) (goal : GoalSpec) → (with_goal flat goal).class_number ≡ flat.class_number
+class_with_goal flat (Plain (Point gx gz)) = refl
+class_with_goal flat (Plain (Circle gx gz r)) = refl
+class_with_goal flat (Plain (NotCircle gx gz r)) = refl
+class_with_goal flat (Plain (SquareGoal r)) = refl
+class_with_goal flat (Plain (NotSquare r)) = refl
+class_with_goal flat (AboutObstruction id grow) = refl
 
 caller_of-flat_request : (caller class : ℕ) (request : Request) → (flat_request caller class request).caller ≡ caller
-caller_of-flat_request caller class (Path name x z (Plain (Point gx gz))) = refl
-caller_of-flat_request caller class (Path name x z (Plain (Circle gx gz r))) = refl
-caller_of-flat_request caller class (Path name x z (Plain (NotCircle gx gz r))) = refl
-caller_of-flat_request caller class (Path name x z (Plain (SquareGoal r))) = refl
-caller_of-flat_request caller class (Path name x z (Plain (NotSquare r))) = refl
-caller_of-flat_request caller class (Path name x z (AboutObstruction id grow)) = refl
-caller_of-flat_request caller class (Region name x z) = refl
+caller_of-flat_request caller class (Path request) = caller_with_goal (asked_at PATH caller class request.x request.z) request.goal
+caller_of-flat_request caller class (Region query) = refl
 
 caller_of-flat_add : (caller id mask : ℕ) (shape : Shape) → (flat_add caller id mask shape).caller ≡ caller
 caller_of-flat_add caller id mask (UnitShape x z half) = refl
@@ -68,13 +92,8 @@ caller_of-flat_post caller class (Editing (Move id x z)) = refl
 caller_of-flat_post caller class (Asking request) = caller_of-flat_request caller class request
 
 class_of-flat_request : (caller class : ℕ) (request : Request) → (flat_request caller class request).class_number ≡ class
-class_of-flat_request caller class (Path name x z (Plain (Point gx gz))) = refl
-class_of-flat_request caller class (Path name x z (Plain (Circle gx gz r))) = refl
-class_of-flat_request caller class (Path name x z (Plain (NotCircle gx gz r))) = refl
-class_of-flat_request caller class (Path name x z (Plain (SquareGoal r))) = refl
-class_of-flat_request caller class (Path name x z (Plain (NotSquare r))) = refl
-class_of-flat_request caller class (Path name x z (AboutObstruction id grow)) = refl
-class_of-flat_request caller class (Region name x z) = refl
+class_of-flat_request caller class (Path request) = class_with_goal (asked_at PATH caller class request.x request.z) request.goal
+class_of-flat_request caller class (Region query) = refl
 
 -- ---- a flat post reads as the post that it is
 
@@ -95,14 +114,6 @@ post_in-IsPost map flat caller post is = post_in-form map.classes flat caller po
 -- the caller stands in the flat post
 pub caller-IsPost : (map : Map) (flat : FlatPost) (caller : ℕ) (post : Post) → IsPost map flat caller post → flat.caller ≡ caller
 caller-IsPost map flat caller post is = ap (λ f. f.caller) is.form ∙ caller_of-flat_post caller flat.class_number post
-
--- a request that is read is for the class that was given
-asked_from : (path region : Bool) (goal : Option GoalSpec) (flat : FlatPost) (name : List ℕ) (request : Request)
-    → cond path (option_map (λ g. Path name flat.x flat.z g) goal) (cond region (Some (Region name flat.x flat.z)) None) ≡ Some request → asked_class request ≡ name
-asked_from true region None flat name request e = absurd (cc)
-asked_from true region (Some g) flat name request e = let same : Path name flat.x flat.z g ≡ request = cc in ap asked_class (sym same)
-asked_from false true goal flat name request e = let same : Region name flat.x flat.z ≡ request = cc in ap asked_class (sym same)
-asked_from false false goal flat name request e = absurd (cc)
 
 -- ---- two flat posts with the same fields are one
 

@@ -83,13 +83,13 @@ asked_at kind caller class x z = record (bare_post kind caller) { class_number =
 
 -- a request of a caller, for the class of a number
 abbrev pub flat_request : ℕ → ℕ → Request → FlatPost
-flat_request caller class (Path name x z goal) = with_goal (asked_at PATH caller class x z) goal
-flat_request caller class (Region name x z) = asked_at REGION caller class x z
+flat_request caller class (Path request) = with_goal (asked_at PATH caller class request.x request.z) request.goal
+flat_request caller class (Region query) = asked_at REGION caller class query.x query.z
 
 -- the name of the class that a request is for
 abbrev pub asked_class : Request → List ℕ
-asked_class (Path name x z goal) = name
-asked_class (Region name x z) = name
+asked_class (Path request) = request.class
+asked_class (Region query) = query.class
 
 -- the flat form of a post of a caller, which for a request has the number of its class
 abbrev pub flat_post : ℕ → ℕ → Post → FlatPost

@@ -11,17 +11,18 @@ use crate::posted::{FlatPost, bare_post};
 use class_config::{ClassName, ClassTable};
 use fixed_point::Fixed;
 use nav_types::Class;
-use posts::{Post, Request};
+use posts::{PathRequest, Post, RegionQuery, Request};
 
 /// The flat form of a request of a caller for the class of a number.
 pub fn flat_request(caller: u8, class_number: u8, request: &Request) -> FlatPost
     ensures { result ≡ form.flat_request caller class_number request.now }
 {
     match request {
-        Request::Path { x, z, goal, .. } => {
-            with_goal(asked_at(PATH, caller, class_number, *x, *z), goal)
+        Request::Path(request) => {
+            let asked = asked_at(PATH, caller, class_number, request.x, request.z);
+            with_goal(asked, &request.goal)
         }
-        Request::Region { x, z, .. } => asked_at(REGION, caller, class_number, *x, *z),
+        Request::Region(query) => asked_at(REGION, caller, class_number, query.x, query.z),
     }
 }
 
@@ -42,7 +43,8 @@ pub fn asked_class(request: &Request) -> &ClassName
     ensures { result.now ≡ form.asked_class request.now }
 {
     match request {
-        Request::Path { class, .. } | Request::Region { class, .. } => class,
+        Request::Path(request) => &request.class,
+        Request::Region(query) => &query.class,
     }
 }
 
@@ -77,9 +79,9 @@ fn request_of(flat: &FlatPost, class: ClassName) -> Option<Request>
     match flat.kind {
         PATH => {
             let goal = goal_of(flat)?;
-            Some(Request::Path { class, x, z, goal })
+            Some(Request::Path(PathRequest { class, x, z, goal }))
         }
-        REGION => Some(Request::Region { class, x, z }),
+        REGION => Some(Request::Region(RegionQuery { class, x, z })),
         _ => None,
     }
 }

@@ -16,6 +16,7 @@ use Rattle.goal_shapes.specs.declared.goals.GoalSpec.TheVariants.{Plain}
 use Rattle.posts.specs.declared.edits.Edit.TheVariants.{Add, Remove}
 use Rattle.posts.specs.declared.posts.Post.{Post}
 use Rattle.posts.specs.declared.posts.Post.TheVariants.{Edit as Editing, Ask as Asking}
+use Rattle.posts.specs.declared.posts.PathRequest.{PathRequest}
 use Rattle.posts.specs.declared.posts.Request.TheVariants.{Path as AsksPath}
 use Rattle.posts.specs.Maps.{Map}
 
@@ -165,7 +166,8 @@ draw_path turn caller state =
     let kind = draw 5 start.state in
     let aim = draw_aim turn caller start.value kind.state in
     let goal = draw_goal kind.value aim.value aim.state in
-    drawn (Asking (AsksPath (class_name class.value) (pos start.value.0) (pos start.value.1) (Plain goal.value))) goal.state
+    let request : PathRequest = record { class = class_name class.value; x = pos start.value.0; z = pos start.value.1; goal = Plain goal.value } in
+    drawn (Asking (AsksPath request)) goal.state
 
 -- ---- turns
 

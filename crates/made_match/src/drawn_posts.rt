@@ -8,7 +8,7 @@ use class_config::ClassName;
 use goal_shapes::GoalSpec;
 use nav_types::{NoMemory, Sequence};
 use obstruction_shapes::{Obstruction, Shape};
-use posts::{Edit, Post, Posts, Request, push_some};
+use posts::{Edit, PathRequest, Post, Posts, Request, push_some};
 use std::alloc::Global;
 
 /// How many obstruction numbers each caller has.
@@ -153,12 +153,12 @@ fn path(draws: &mut Draws, turn: u32, caller: u32) -> Post
     let kind = draws.below(5);
     let aim = places::aim(draws, turn, caller, start);
     let goal = places::goal(draws, kind, aim);
-    Post::Ask(Request::Path {
+    Post::Ask(Request::Path(PathRequest {
         class,
         x: places::fixed(start.0),
         z: places::fixed(start.1),
         goal: GoalSpec::Plain(goal),
-    })
+    }))
 }
 
 /// The name of the class of a number.

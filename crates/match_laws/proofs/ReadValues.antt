@@ -92,10 +92,12 @@ post_said version callers caller (Edits (Add id o)) d (c, add, shape, keys, who,
 post_said version callers caller (Edits (Remove id)) d (c, remove, keys, who, number) = (number.1, refl)
 post_said version callers caller (Edits (Move id x z)) d (c, move, to, keys, who, number, at, newest) =
     ((number.1, array_fits (x ∷ z ∷ []) to at), le-leb 3 version newest)
-post_said version callers caller (Asks (Path class x z goal)) d (c, path, from, to, keys, who, name, at, is) =
-    ((name.1, array_fits (x ∷ z ∷ []) from at, goal_fits version goal to is), goal_has version goal to is)
-post_said version callers caller (Asks (Region class x z)) d (c, region, place, keys, who, name, at) =
-    ((name.1, array_fits (x ∷ z ∷ []) place at), refl)
+post_said version callers caller (Asks (Path request)) d says = (
+  (says.says_class.1, array_fits (request.x ∷ request.z ∷ []) says.from says.says_start, goal_fits version request.goal says.to says.says_goal),
+  goal_has version request.goal says.to says.says_goal,
+)
+post_said version callers caller (Asks (Region query)) d says =
+    ((says.says_class.1, array_fits (query.x ∷ query.z ∷ []) says.place says.says_place), refl)
 
 -- ---- classes
 

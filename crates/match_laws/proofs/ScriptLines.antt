@@ -108,8 +108,8 @@ pub few_caller : (version callers caller : ℕ) (post : Post) (d : Data) → IsP
 few_caller version callers caller (Edits (Add id o)) d (c, add, shape, keys, who, number, decimals) = who.1
 few_caller version callers caller (Edits (Remove id)) d (c, remove, keys, who, number) = who.1
 few_caller version callers caller (Edits (Move id x z)) d (c, move, to, keys, who, number, at, newest) = who.1
-few_caller version callers caller (Asks (Path class x z goal)) d (c, path, from, to, keys, who, name, at, is) = who.1
-few_caller version callers caller (Asks (Region class x z)) d (c, region, place, keys, who, name, at) = who.1
+few_caller version callers caller (Asks (Path request)) d says = says.says_caller.1
+few_caller version callers caller (Asks (Region query)) d says = says.says_caller.1
 
 full_list : (own : List Post) (post : Post) → is_empty (own ++ post ∷ []) ≡ false
 full_list [] post = refl

@@ -180,8 +180,8 @@ unfolding post_json
 told_plain version caller (Edits (Add id o)) plain = told_line _ plain
 told_plain version caller (Edits (Remove id)) plain = told_line _ plain
 told_plain version caller (Edits (Move id x z)) plain = told_line _ plain
-told_plain version caller (Asks (AskPath class x z goal)) plain = told_line _ plain
-told_plain version caller (Asks (AskRegion class x z)) plain = told_line _ plain
+told_plain version caller (Asks (AskPath request)) plain = told_line _ plain
+told_plain version caller (Asks (AskRegion query)) plain = told_line _ plain
 
 told_post : (m : Map) (caller : ℕ) (post : Post) → IsMapValue m → caller < m.callers → IsPostValue post → IsTrue (is_post_of m.version post)
     → IsTold (line (post_json m.version caller post))

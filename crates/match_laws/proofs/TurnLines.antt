@@ -152,12 +152,13 @@ region_has_one report m s passes x z (Some class) true answer is = ap (lines_of_
 lines_of_noted : (m : Map) (s : Standing) (report : Report) (request : Request) (answer : Answer) (note : Note) → IsAnswerTo m s request answer
     → IsNoteOf m s report request answer note → lines_of_answer report answer ≡ suc (lines_of_note note)
 unfolding IsAnswerTo
-lines_of_noted m s report (AsksRegion name x z) answer note is told =
-    region_has_one report m s (passable_at m s) x z (class_named m name) (is_on_map m.size x z) answer is ∙ ap (λ (n : Note). suc (lines_of_note n)) (sym told)
-lines_of_noted m s report (AsksPath name x z goal) (Refused refusal) note is told = ap (λ (n : Note). suc (lines_of_note n)) (sym told)
-lines_of_noted m s report (AsksPath name x z goal) Nowhere note is told = ap (λ (n : Note). suc (lines_of_note n)) (sym told)
-lines_of_noted m s report (AsksPath name x z goal) (IsRegion region) note is told = ap (λ (n : Note). suc (lines_of_note n)) (sym told)
-lines_of_noted m s report (AsksPath name x z goal) (IsPath path) note is told =
+lines_of_noted m s report (AsksRegion query) answer note is told =
+    region_has_one report m s (passable_at m s) query.x query.z (class_named m query.class) (is_on_map m.size query.x query.z) answer is
+    ∙ ap (λ (n : Note). suc (lines_of_note n)) (sym told)
+lines_of_noted m s report (AsksPath request) (Refused refusal) note is told = ap (λ (n : Note). suc (lines_of_note n)) (sym told)
+lines_of_noted m s report (AsksPath request) Nowhere note is told = ap (λ (n : Note). suc (lines_of_note n)) (sym told)
+lines_of_noted m s report (AsksPath request) (IsRegion region) note is told = ap (λ (n : Note). suc (lines_of_note n)) (sym told)
+lines_of_noted m s report (AsksPath request) (IsPath path) note is told =
     ap (λ (b : Bool). if b then 2 else 1) (told_says report _ _ told.noted.target path note told.noted.told) ∙ lines_of_saying note
 
 lines_by_note : (m : Map) (s : Standing) (report : Report) (request : Request) (answer : Answer) (note : Note) → IsAnswerTo m s request answer

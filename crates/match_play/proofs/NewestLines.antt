@@ -6,16 +6,20 @@ use Rattle.posts.specs.declared.posts.Post.{Post}
 use Rattle.posts.specs.declared.posts.Post.TheVariants.{Edit as Edits, Ask as Asks}
 use Rattle.posts.specs.declared.edits.Edit.TheVariants.{Add, Remove, Move}
 use Rattle.posts.specs.declared.posts.Request.TheVariants.{Path, Region}
+use Rattle.goal_shapes.specs.declared.goals.GoalSpec.{GoalSpec}
 use Rattle.goal_shapes.specs.declared.goals.GoalSpec.TheVariants.{Plain, Obstruction}
-use Rattle.script_text.specs.Canon.{HaveLines, is_post_of}
+use Rattle.script_text.specs.Canon.{HaveLines, is_goal_of, is_post_of}
+
+goal_of_3 : (goal : GoalSpec) → is_goal_of 3 goal ≡ true
+goal_of_3 (Plain goal) = refl
+goal_of_3 (Obstruction id grow) = refl
 
 post_of_3 : (post : Post) → is_post_of 3 post ≡ true
 post_of_3 (Edits (Add id o)) = refl
 post_of_3 (Edits (Remove id)) = refl
 post_of_3 (Edits (Move id x z)) = refl
-post_of_3 (Asks (Path class x z (Plain goal))) = refl
-post_of_3 (Asks (Path class x z (Obstruction id grow))) = refl
-post_of_3 (Asks (Region class x z)) = refl
+post_of_3 (Asks (Path request)) = goal_of_3 request.goal
+post_of_3 (Asks (Region query)) = refl
 
 all_true : {X : Type 0} (p : X → Bool) → ((x : X) → p x ≡ true) → (xs : List X) → list_all p xs ≡ true
 all_true p each [] = refl

@@ -33,8 +33,8 @@ work_to report x z (Err refusal) = 0
 
 -- the work of a job; a region is looked up
 abbrev pub work_of : Map → Standing → Report → Request → ℕ
-work_of map standing report (Path class x z goal) = work_to report x z (goal_found map standing goal)
-work_of map standing report (Region class x z) = 0
+work_of map standing report (Path request) = work_to report request.x request.z (goal_found map standing request.goal)
+work_of map standing report (Region query) = 0
 
 -- how many of so many workers: one for each whole share of the work, and one at least
 abbrev pub worth_workers : Map → Standing → Report → List Request → ℕ → ℕ

@@ -51,9 +51,9 @@ pub(crate) fn work_of(version: &Version, job: &Request, report: Report) -> u64
     ensures few { result < 2 ^ 32 }
 {
     match job {
-        Request::Region { .. } => 0,
-        Request::Path { x, z, goal, .. } => match goal_of(version, goal) {
-            Ok(goal) => path_work(report, distance_to(*x, *z, &goal)),
+        Request::Region(_) => 0,
+        Request::Path(request) => match goal_of(version, &request.goal) {
+            Ok(goal) => path_work(report, distance_to(request.x, request.z, &goal)),
             Err(_) => 0,
         },
     }

@@ -74,12 +74,13 @@ small_at (Some class) true Answers given each is = each class is
 
 answer_small : (m : Map) (s : Standing) (request : Request) (given : Answer) → IsAnswerTo m s request given → IsSmallAnswer given
 unfolding IsAnswerTo
-answer_small m s (AsksPath name x z goal) given is =
-    small_at (class_named m name) (is_on_map m.size x z) (λ class. IsPathFound (passable_at m s class) x z (goal_found m s goal)) given
-    (λ class found. found_small m s class x z (goal_found m s goal) given found) is
-answer_small m s (AsksRegion name x z) given is =
-    small_at (class_named m name) (is_on_map m.size x z) (λ class. IsRegionAt (passable_at m s class) x z) given
-    (λ class region. region_small (passable_at m s class) x z given region) is
+answer_small m s (AsksPath request) given is =
+    let goal = goal_found m s request.goal in
+    small_at (class_named m request.class) (is_on_map m.size request.x request.z) (λ class. IsPathFound (passable_at m s class) request.x request.z goal) given
+    (λ class found. found_small m s class request.x request.z goal given found) is
+answer_small m s (AsksRegion query) given is =
+    small_at (class_named m query.class) (is_on_map m.size query.x query.z) (λ class. IsRegionAt (passable_at m s class) query.x query.z) given
+    (λ class region. region_small (passable_at m s class) query.x query.z given region) is
 
 reply_small : (m : Map) (final s : Standing) (post : Post) (reply : Reply) → Gets m final s post reply → IsSmall reply
 unfolding IsSmallAnswer

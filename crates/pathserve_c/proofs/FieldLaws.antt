@@ -10,6 +10,8 @@ use Rattle.flow_field.specs.Flows.{FieldCells, IsFieldOf}
 use Rattle.posts.specs.declared.edits.Refusal.{Refusal}
 use Rattle.posts.specs.declared.posts.Post.{Post}
 use Rattle.posts.specs.declared.posts.Post.TheVariants.{Edit as Editing, Ask}
+use Rattle.posts.specs.declared.posts.PathRequest.{PathRequest}
+use Rattle.posts.specs.declared.posts.RegionQuery.{RegionQuery}
 use Rattle.posts.specs.declared.posts.Request.{Request}
 use Rattle.posts.specs.declared.posts.Request.TheVariants.{Path as AsksPath, Region as AsksRegion}
 use Rattle.posts.specs.declared.replies.Answer.{Answer}
@@ -63,12 +65,12 @@ grounds (Some class) true (Ok shape) passes x z path (inr found) = record {
   passable = subst (λ (p : PathAnswer). IsTrue (passes class p.start)) (sym (same_path path found.0 found.1.0)) found.1.1.start_cell.passable;
 }
 
-pub asked_by_path : (version : MapState) (name : List ℕ) (x z : ℤ) (spec : GoalSpec) (path : PathAnswer)
-    → IsAnswerTo version.map version.standing (AsksPath name x z spec) (IsPath path) → IsFieldAsked version name spec path.start
+pub asked_by_path : (version : MapState) (request : PathRequest) (path : PathAnswer)
+    → IsAnswerTo version.map version.standing (AsksPath request) (IsPath path) → IsFieldAsked version request.class request.goal path.start
 unfolding IsAnswerTo
-asked_by_path version name x z spec path answers =
-    let is = grounds (class_named version.map name) (is_on_map version.map.size x z) (goal_found version.map version.standing spec)
-    (λ class. passable_at version.map version.standing class) x z path answers in
+asked_by_path version request path answers =
+    let is = grounds (class_named version.map request.class) (is_on_map version.map.size request.x request.z) (goal_found version.map version.standing request.goal)
+    (λ class. passable_at version.map version.standing class) request.x request.z path answers in
     record { class = is.class; named = is.named; goal = is.shape; found = is.found; passes = is.passable }
 
 no_region : (known : Option ℕ) (on : Bool) (passes : ℕ → Cell → Bool) (x z : ℤ) (path : PathAnswer)
@@ -77,11 +79,12 @@ no_region None on passes x z path is = absurd cc
 no_region (Some class) false passes x z path is = absurd cc
 no_region (Some class) true passes x z path (region, is) = let same = is.0 in absurd cc
 
-pub region_has_no_path : (version : MapState) (name : List ℕ) (x z : ℤ) (path : PathAnswer)
-    → IsAnswerTo version.map version.standing (AsksRegion name x z) (IsPath path) → ⊥
+pub region_has_no_path : (version : MapState) (query : RegionQuery) (path : PathAnswer)
+    → IsAnswerTo version.map version.standing (AsksRegion query) (IsPath path) → ⊥
 unfolding IsAnswerTo
-region_has_no_path version name x z path answers =
-    no_region (class_named version.map name) (is_on_map version.map.size x z) (λ class. passable_at version.map version.standing class) x z path answers
+region_has_no_path version query path answers =
+    no_region (class_named version.map query.class) (is_on_map version.map.size query.x query.z)
+    (λ class. passable_at version.map version.standing class) query.x query.z path answers
 
 -- ---- posts that ask for a path
 
@@ -89,10 +92,10 @@ abbrev AsksForPath : Post → Type 0
 AsksForPath (Editing edit) = ⊥
 AsksForPath (Ask request) = IsTrue (asks_path request)
 
-pub region_asks_no_path : (map : Map) (flat : FlatPost) (caller other : ℕ) (request : Request) (name : List ℕ) (x z : ℤ) (spec : GoalSpec)
-    → IsPost map flat caller (Ask request) → asks_path request ≡ false → IsPost map flat other (Ask (AsksPath name x z spec)) → ⊥
-region_asks_no_path map flat caller other request name x z spec is region asks =
-    let same = (one_post-IsPost map flat other caller (Ask (AsksPath name x z spec)) (Ask request) asks is).1 in
+pub region_asks_no_path : (map : Map) (flat : FlatPost) (caller other : ℕ) (request : Request) (path : PathRequest)
+    → IsPost map flat caller (Ask request) → asks_path request ≡ false → IsPost map flat other (Ask (AsksPath path)) → ⊥
+region_asks_no_path map flat caller other request path is region asks =
+    let same = (one_post-IsPost map flat other caller (Ask (AsksPath path)) (Ask request) asks is).1 in
     let yes : IsTrue (asks_path request) = subst AsksForPath same refl in absurd cc
 
 -- ---- a field that was made
@@ -110,11 +113,11 @@ field_named version name spec start class goal (Ok field) named found is = recor
 field_named version name spec start class goal (Err fault) named found is = tt
 
 -- the buffers have what a call for a field promises
-field_made : (version : MapState) (name : List ℕ) (x z : ℤ) (spec : GoalSpec) (answer : Answer) (field : Option FieldCells) (before after : FieldRoom)
-    → HasField version (AsksPath name x z spec) answer field → IsWrittenBy HasStep field version.map.size before.steps after.steps
-    → IsWrittenBy HasDistance field version.map.size before.distances after.distances → IsFieldBy version name spec answer before after
-field_made version name x z spec (IsPath path) None before after has steps distances = absurd has
-field_made version name x z spec (IsPath path) (Some field) before after has steps distances =
+field_made : (version : MapState) (request : PathRequest) (answer : Answer) (field : Option FieldCells) (before after : FieldRoom)
+    → HasField version (AsksPath request) answer field → IsWrittenBy HasStep field version.map.size before.steps after.steps
+    → IsWrittenBy HasDistance field version.map.size before.distances after.distances → IsFieldBy version request answer before after
+field_made version request (IsPath path) None before after has steps distances = absurd has
+field_made version request (IsPath path) (Some field) before after has steps distances =
     let to = has.field in record {
       class = has.class;
       named = has.named;
@@ -125,37 +128,34 @@ field_made version name x z spec (IsPath path) (Some field) before after has ste
       steps = steps (passes_of version has.class) (hit_by to.target) path.start to.field;
       distances = distances (passes_of version has.class) (hit_by to.target) path.start to.field;
     }
-field_made version name x z spec (Refused refusal) None before after has steps distances = (steps, distances)
-field_made version name x z spec (Refused refusal) (Some field) before after has steps distances = absurd has
-field_made version name x z spec Nowhere None before after has steps distances = (steps, distances)
-field_made version name x z spec Nowhere (Some field) before after has steps distances = absurd has
-field_made version name x z spec (IsRegion region) None before after has steps distances = (steps, distances)
-field_made version name x z spec (IsRegion region) (Some field) before after has steps distances = absurd has
+field_made version request (Refused refusal) None before after has steps distances = (steps, distances)
+field_made version request (Refused refusal) (Some field) before after has steps distances = absurd has
+field_made version request Nowhere None before after has steps distances = (steps, distances)
+field_made version request Nowhere (Some field) before after has steps distances = absurd has
+field_made version request (IsRegion region) None before after has steps distances = (steps, distances)
+field_made version request (IsRegion region) (Some field) before after has steps distances = absurd has
 
 pub makes_field : (version : MapState) (post : FlatPost) (caller : ℕ) (request : Request) (answer : Answer) (field : Option FieldCells) (before after : FieldRoom)
     → IsPost version.map post caller (Ask request) → IsTrue (asks_path request) → IsAnswerTo version.map version.standing request answer
     → HasField version request answer field → after.reply ≡ flat_reply caller 0 0 (Answered answer)
     → IsWrittenBy HasStep field version.map.size before.steps after.steps
     → IsWrittenBy HasDistance field version.map.size before.distances after.distances → MakesField version post before after
-makes_field version post caller (AsksPath name x z spec) answer field before after asks path answers has told steps distances = record {
+makes_field version post caller (AsksPath request) answer field before after asks path answers has told steps distances = record {
   caller = caller;
-  name = name;
-  x = x;
-  z = z;
-  spec = spec;
+  request = request;
   asks = asks;
   answer = answer;
   answers = answers;
   told = told;
-  field = field_made version name x z spec answer field before after has steps distances;
+  field = field_made version request answer field before after has steps distances;
 }
-makes_field version post caller (AsksRegion name x z) answer field before after asks path answers has told steps distances = absurd cc
+makes_field version post caller (AsksRegion query) answer field before after asks path answers has told steps distances = absurd cc
 
 -- a field that an answer has is of the map's size
 pub sized : (version : MapState) (request : Request) (answer : Answer) (field : Option FieldCells) → HasField version request answer field → IsSized field version.map.size
 sized version request answer None has = tt
-sized version (AsksPath name x z spec) (IsPath path) (Some field) has = has.field.size
-sized version (AsksRegion name x z) (IsPath path) (Some field) has = absurd has
+sized version (AsksPath request) (IsPath path) (Some field) has = has.field.size
+sized version (AsksRegion query) (IsPath path) (Some field) has = absurd has
 sized version request (Refused refusal) (Some field) has = absurd has
 sized version request Nowhere (Some field) has = absurd has
 sized version request (IsRegion region) (Some field) has = absurd has

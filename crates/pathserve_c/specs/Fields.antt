@@ -1,11 +1,11 @@
 -- Flow fields in a game's buffers.
-use Rattle.std.specs.Prelude.{ℕ, ℤ, ◌≡◌, List, Option, Some, Result, Ok, Err}
+use Rattle.std.specs.Prelude.{ℕ, ◌≡◌, List, Option, Some, Result, Ok, Err}
 use Rattle.nav_types.specs.declared.cells.Cell.{Cell}
 use Rattle.goal_shapes.specs.declared.goals.Goal.{Goal}
-use Rattle.goal_shapes.specs.declared.goals.GoalSpec.{GoalSpec}
 use Rattle.goal_reach.specs.declared.targets.Target.{Target}
 use Rattle.goal_reach.specs.Targets.{AreTargets, hit_by}
 use Rattle.posts.specs.declared.posts.Post.TheVariants.{Ask}
+use Rattle.posts.specs.declared.posts.PathRequest.{PathRequest}
 use Rattle.posts.specs.declared.posts.Request.TheVariants.{Path as AsksPath}
 use Rattle.posts.specs.declared.replies.Answer.{Answer}
 use Rattle.posts.specs.declared.replies.Answer.TheVariants.{Path as IsPath}
@@ -32,39 +32,36 @@ pub record FieldRoom : Type 0 where
 
 -- The buffers have, of each cell, the step and the distance that the flow field of a path has: that of the goal's targets for
 -- the class, in the area of the path's start.
-pub record IsFieldTo (version : MapState) (name : List ℕ) (spec : GoalSpec) (start : Cell) (before after : FieldRoom) : Type 0 where
+pub record IsFieldTo (version : MapState) (request : PathRequest) (start : Cell) (before after : FieldRoom) : Type 0 where
   pub class : ℕ
-  pub named : class_named version.map name ≡ Some class
+  pub named : class_named version.map request.class ≡ Some class
   pub goal : Goal
-  pub found : goal_found version.map version.standing spec ≡ Ok goal
+  pub found : goal_found version.map version.standing request.goal ≡ Ok goal
   pub target : Target
   pub targets : AreTargets (passes_of version class) start goal target
   pub steps : AreTold (HasStep (passes_of version class) (hit_by target) start) version.map.size before.steps after.steps
   pub distances : AreTold (HasDistance (passes_of version class) (hit_by target) start) version.map.size before.distances after.distances
 
 -- the buffers have the field of an answer that is a path; else they stay
-abbrev pub IsFieldBy : MapState → List ℕ → GoalSpec → Answer → (before after : FieldRoom) → Type 0
-IsFieldBy version name spec (IsPath path) before after = IsFieldTo version name spec path.start before after
-IsFieldBy version name spec answer before after = (after.steps ≡ before.steps) × (after.distances ≡ before.distances)
+abbrev pub IsFieldBy : MapState → PathRequest → Answer → (before after : FieldRoom) → Type 0
+IsFieldBy version request (IsPath path) before after = IsFieldTo version request path.start before after
+IsFieldBy version request answer before after = (after.steps ≡ before.steps) × (after.distances ≡ before.distances)
 
 -- The post asks for a path by a caller of the map, the reply tells its answer on what stands, and the buffers have its field.
 pub record MakesField (version : MapState) (post : FlatPost) (before after : FieldRoom) : Type 0 where
   pub caller : ℕ
-  pub name : List ℕ
-  pub x : ℤ
-  pub z : ℤ
-  pub spec : GoalSpec
-  pub asks : IsPost version.map post caller (Ask (AsksPath name x z spec))
+  pub request : PathRequest
+  pub asks : IsPost version.map post caller (Ask (AsksPath request))
   pub answer : Answer
-  pub answers : IsAnswerTo version.map version.standing (AsksPath name x z spec) answer
+  pub answers : IsAnswerTo version.map version.standing (AsksPath request) answer
   pub told : after.reply ≡ flat_reply caller 0 0 (Answered answer)
-  pub field : IsFieldBy version name spec answer before after
+  pub field : IsFieldBy version request answer before after
 
 -- what an answer says of a post whose field was asked for: it refuses where there was no memory, or the post asks for no path
 abbrev pub MakesFieldAs : MapState → FlatPost → (before after : FieldRoom) → Result (Unit {0}) PostFault → Type 0
 MakesFieldAs version post before after (Ok done) = MakesField version post before after
 MakesFieldAs version post before after (Err fault.BadValue) = (after ≡ before)
-    × ((caller : ℕ) (name : List ℕ) (x z : ℤ) (spec : GoalSpec) → IsPost version.map post caller (Ask (AsksPath name x z spec)) → ⊥)
+    × ((caller : ℕ) (request : PathRequest) → IsPost version.map post caller (Ask (AsksPath request)) → ⊥)
 MakesFieldAs version post before after (Err fault.NoMemory) = after ≡ before
 
 -- the same of what a handle shows; anything else than a view refuses

@@ -1,7 +1,7 @@
 //! Flow fields, written into buffers of a game.
-ghost use Rattle.std.specs.Prelude.{◌≡◌, ◌<◌, ℕ, ℤ, List, length, IfOk, IfSome, IsNone, IsTrue, Some};
-ghost use Rattle.goal_shapes.specs.declared.goals.GoalSpec.{GoalSpec};
+ghost use Rattle.std.specs.Prelude.{◌≡◌, ◌<◌, ℕ, length, IfOk, IfSome, IsNone, IsTrue, Some};
 ghost use Rattle.posts.specs.declared.posts.Post.TheVariants.{Ask};
+ghost use Rattle.posts.specs.declared.posts.PathRequest.{PathRequest};
 ghost use Rattle.posts.specs.declared.posts.Request.TheVariants.{Path as AsksPath};
 ghost use Rattle.posts.specs.declared.replies.Answer.TheVariants.{Path as IsPath};
 ghost use Rattle.flat_posts.specs.Posts.{IsPost};
@@ -116,8 +116,8 @@ fn write_field(field: &Option<Field>, size: Size, steps: &mut [u8], distances: &
 fn path_asked(version: &Version, post: &FlatPost) -> Option<(u8, Request)>
     ensures some { IfSome result (λ asked. IsPost version.now.map post.now asked.0 (Ask asked.1)) }
     ensures path { IfSome result (λ asked. IsTrue (asks_path asked.1)) }
-    ensures none { IsNone result → (caller : ℕ) (name : List ℕ) (x z : ℤ) (spec : GoalSpec)
-        → IsPost version.now.map post.now caller (Ask (AsksPath name x z spec)) → ⊥ }
+    ensures none { IsNone result → (caller : ℕ) (request : PathRequest)
+        → IsPost version.now.map post.now caller (Ask (AsksPath request)) → ⊥ }
 {
     match asked(version, post) {
         Some((caller, request)) => {
@@ -136,8 +136,8 @@ fn asks_path(request: &Request) -> bool
     ensures { result ≡ asks_path request.now }
 {
     match request {
-        Request::Path { .. } => true,
-        Request::Region { .. } => false,
+        Request::Path(_) => true,
+        Request::Region(_) => false,
     }
 }
 
@@ -176,8 +176,10 @@ fn field_of(
     ensures { IfOk result (IsFieldFor version.now request.now path.now.start) }
 {
     match request {
-        Request::Path { class, goal, .. } => field_named(alloc, version, class, goal, path.start),
-        Request::Region { .. } => unreachable!(),
+        Request::Path(request) => {
+            field_named(alloc, version, &request.class, &request.goal, path.start)
+        }
+        Request::Region(_) => unreachable!(),
     }
 }
 

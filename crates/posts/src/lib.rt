@@ -20,7 +20,8 @@ pub use edits::{Edit, EditReplies, EditReply, Edits, Refusal};
 pub use maps::{BaseRects, MapSpec};
 pub use notes::{FlowLine, FlowSummary, Note, Noted, Notes, Report};
 pub use posts::{
-    Jobs, Journal, Post, Posts, Request, TurnPosts, count_posts, empty_lists, push_post, push_some,
+    Jobs, Journal, PathRequest, Post, Posts, RegionQuery, Request, TurnPosts, count_posts,
+    empty_lists, push_post, push_some,
 };
 pub use replies::{
     AllReplies, Answer, Answers, CallerReplies, PathAnswer, RegionAnswer, Replies, Reply, Tallies,

@@ -22,19 +22,27 @@ pub enum Post {
 /// What a caller asks for. It holds no memory.
 #[derive(Clone, Copy, Debug)]
 pub enum Request {
-    /// Asks for a path of a class from the point (`x`, `z`) to a goal.
-    Path {
-        class: ClassName,
-        x: Fixed,
-        z: Fixed,
-        goal: GoalSpec,
-    },
-    /// Asks for the region and the area of a class at the point (`x`, `z`).
-    Region {
-        class: ClassName,
-        x: Fixed,
-        z: Fixed,
-    },
+    /// Asks for a path.
+    Path(PathRequest),
+    /// Asks for the region and the area of a place.
+    Region(RegionQuery),
+}
+
+/// Asks for a path of a class from the point (`x`, `z`) to a goal.
+#[derive(Clone, Copy, Debug)]
+pub struct PathRequest {
+    pub class: ClassName,
+    pub x: Fixed,
+    pub z: Fixed,
+    pub goal: GoalSpec,
+}
+
+/// Asks for the region and the area of a class at the point (`x`, `z`).
+#[derive(Clone, Copy, Debug)]
+pub struct RegionQuery {
+    pub class: ClassName,
+    pub x: Fixed,
+    pub z: Fixed,
 }
 
 /// The posts of one caller, in order.

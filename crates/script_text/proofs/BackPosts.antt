@@ -155,10 +155,11 @@ simple_post version caller (Edits (Add id o)) c is =
 simple_post version caller (Edits (Remove id)) c is = ((refl, refl), c, ((refl, refl), small id 4294967295 (omega arith) is, tt))
 simple_post version caller (Edits (Move id x z)) c is =
     ((refl, refl), c, ((refl, refl), small id 4294967295 (omega arith) is.0, ((refl, refl), simple_decimals (x ∷ z ∷ []) 6 is.1, tt)))
-simple_post version caller (Asks (Path class x z goal)) c is =
-    ((refl, refl), c, ((refl, refl), text-name class is.0, ((refl, refl), simple_decimals (x ∷ z ∷ []) 6 is.1, ((refl, refl), simple_goal goal is.2, tt))))
-simple_post version caller (Asks (Region class x z)) c is =
-    ((refl, refl), c, ((refl, refl), text-name class is.0, ((refl, refl), simple_decimals (x ∷ z ∷ []) 6 is.1, tt)))
+simple_post version caller (Asks (Path request)) c is =
+    let start = simple_decimals (request.x ∷ request.z ∷ []) 6 is.1 in
+    ((refl, refl), c, ((refl, refl), text-name request.class is.0, ((refl, refl), start, ((refl, refl), simple_goal request.goal is.2, tt))))
+simple_post version caller (Asks (Region query)) c is =
+    ((refl, refl), c, ((refl, refl), text-name query.class is.0, ((refl, refl), simple_decimals (query.x ∷ query.z ∷ []) 6 is.1, tt)))
 
 says_post : (version callers caller : ℕ) (post : Post) → caller < callers → IsPostValue post → is_post_of version post ≡ true
     → IsPostLine version callers caller post (sorted (post_json version caller post))
@@ -178,28 +179,28 @@ says_post version callers caller (Edits (Move id x z)) below is has =
       says_decimals (x ∷ z ∷ []) is.1,
       leb-true 3 version has,
     )
-says_post version callers caller (Asks (Path class x z goal)) below is has =
-    let from = sorted (decimals_json (x ∷ z ∷ [])) in let to = sorted (goal_json goal) in (
-      whole_json caller,
-      string class,
-      from,
-      to,
-      second_last (codes "caller") (codes "path") (codes "from") (codes "goal") (whole_json caller) (string class) from to,
-      (refl, below),
-      (refl, is.0),
-      says_decimals (x ∷ z ∷ []) is.1,
-      says_goal version goal is.2 has,
-    )
-says_post version callers caller (Asks (Region class x z)) below is has =
-    let place = sorted (decimals_json (x ∷ z ∷ [])) in (
-      whole_json caller,
-      string class,
-      place,
-      last_first (codes "caller") (codes "region") (codes "at") (whole_json caller) (string class) place,
-      (refl, below),
-      (refl, is.0),
-      says_decimals (x ∷ z ∷ []) is.1,
-    )
+says_post version callers caller (Asks (Path request)) below is has =
+    let from = sorted (decimals_json (request.x ∷ request.z ∷ [])) in let to = sorted (goal_json request.goal) in record {
+      who = whole_json caller;
+      path = string request.class;
+      from = from;
+      to = to;
+      keys = second_last (codes "caller") (codes "path") (codes "from") (codes "goal") (whole_json caller) (string request.class) from to;
+      says_caller = (refl, below);
+      says_class = (refl, is.0);
+      says_start = says_decimals (request.x ∷ request.z ∷ []) is.1;
+      says_goal = says_goal version request.goal is.2 has;
+    }
+says_post version callers caller (Asks (Region query)) below is has =
+    let place = sorted (decimals_json (query.x ∷ query.z ∷ [])) in record {
+      who = whole_json caller;
+      region = string query.class;
+      place = place;
+      keys = last_first (codes "caller") (codes "region") (codes "at") (whole_json caller) (string query.class) place;
+      says_caller = (refl, below);
+      says_class = (refl, is.0);
+      says_place = says_decimals (query.x ∷ query.z ∷ []) is.1;
+    }
 
 pub post_back : (version callers caller : ℕ) (post : Post) → callers ≤ 64 → caller < callers → IsPostValue post → is_post_of version post ≡ true
     → ReadsTo (post_json version caller post) (λ d. post_of version callers d ≡ Some (record { caller = caller; post = post }))

@@ -15,6 +15,8 @@ use Rattle.posts.specs.declared.edits.Edit.{Edit}
 use Rattle.posts.specs.declared.edits.Edit.TheVariants.{Add, Remove, Move}
 use Rattle.posts.specs.declared.posts.Post.TheVariants.{Edit as Edits, Ask as Asks}
 use Rattle.posts.specs.declared.posts.Request.{Request}
+use Rattle.posts.specs.declared.posts.PathRequest.{PathRequest}
+use Rattle.posts.specs.declared.posts.RegionQuery.{RegionQuery}
 use Rattle.posts.specs.declared.posts.Request.TheVariants.{Path, Region}
 use Rattle.script_text.specs.declared.forms.CallerPost.{CallerPost}
 use Rattle.script_text.specs.Values.{whole_in, whole_below, obstruction_number, class_name, under, both, all_three, point_of, round_of, rectangle_of}
@@ -24,7 +26,7 @@ use Rattle.script_text.specs.declared.table.Form.TheVariants as form
 use Rattle.script_text.specs.Table.{key_text, has_form, form_of}
 use Rattle.script_text.specs.Forms.{map_of, base_of, mask_of, unit_of, square_of, add_of, remove_of, move_of, path_of, region_of, post_in, post_of, end_of}
 use Rattle.script_text.specs.Goals.{goal_of}
-use Rattle.script_text.specs.Grammar.{IsObject, map_keys, base_keys, end_keys, bare_add_keys, masked_add_keys, remove_keys, move_keys, path_keys, region_keys, IsNumber, HasAddKeys, IsCaller, IsPostLine, Line, map_line, base_line, post_line, end_line, IsLine}
+use Rattle.script_text.specs.Grammar.{IsObject, map_keys, base_keys, end_keys, bare_add_keys, masked_add_keys, remove_keys, move_keys, path_keys, region_keys, IsNumber, HasAddKeys, IsCaller, IsPathLine, IsRegionLine, IsPostLine, Line, map_line, base_line, post_line, end_line, IsLine}
 use Rattle.script_text.proofs.GrammarValues.{map_some, then_some, under_some, under_is, whole_in-is, whole_in-from, caller-is, caller-from, number-is, number-from, name-is, name-from}
 use Rattle.script_text.proofs.Members.{are_distinct, is_other, open_two, open_three, open_four, has_keys-object, has_keys-other, stand-object, get-object-none}
 use Rattle.script_text.proofs.GrammarLines.{map-from, base-from, end-from, all_three_some, two_some, point-is, point-from, round-is, round-from, rectangle-is, rectangle-from}
@@ -246,47 +248,52 @@ move-is version callers caller d post has said e =
       leb-true 3 version tests.0,
     )
 
+-- the requests of what was read
+abbrev path_by : List ℕ × (ℤ × ℤ) × GoalSpec → Request
+path_by parts = Path (record { class = parts.0; x = parts.1.0; z = parts.1.1; goal = parts.2 })
+
+abbrev region_by : List ℕ × (ℤ × ℤ) → Request
+region_by parts = Region (record { class = parts.0; x = parts.1.0; z = parts.1.1 })
+
 path-is : (version callers caller : ℕ) (d : Data) (post : Request) → has_keys path_keys d ≡ true → under (whole_below callers) (codes "caller") d ≡ Some caller
     → path_of version d ≡ Some post → IsPostLine version callers caller (Asks post) d
 unfolding path_of
 path-is version callers caller d post has said e =
-    let make = λ (parts : List ℕ × (ℤ × ℤ) × GoalSpec). Path parts.0 parts.1.0 parts.1.1 parts.2 in
     let name = under class_name (codes "path") d in let from = under point_of (codes "from") d in let goal = under (goal_of version) (codes "goal") d in
     let o = open_four (codes "caller") (codes "path") (codes "from") (codes "goal") d refl has in
-    let found = map_some make (all_three name from goal) post e in let parts = found.0 in
+    let found = map_some path_by (all_three name from goal) post e in let parts = found.0 in
     let three = all_three_some name from goal parts found.1 in
     let Is : Request → Type 0 = λ p. IsPostLine version callers caller (Asks p) d in
-    subst Is found.2 (
-      o.v,
-      o.w,
-      o.x,
-      o.y,
-      o.is,
-      caller-is callers o.v caller (under_some (whole_below callers) (codes "caller") d o.v caller o.first said),
-      name-is o.w parts.0 (under_some class_name (codes "path") d o.w parts.0 o.second three.0),
-      point-is o.x parts.1 (under_some point_of (codes "from") d o.x parts.1 o.third three.1),
-      goal-is version o.y parts.2 (under_some (goal_of version) (codes "goal") d o.y parts.2 o.fourth three.2),
-    )
+    subst Is found.2 (record {
+      who = o.v;
+      path = o.w;
+      from = o.x;
+      to = o.y;
+      keys = o.is;
+      says_caller = caller-is callers o.v caller (under_some (whole_below callers) (codes "caller") d o.v caller o.first said);
+      says_class = name-is o.w parts.0 (under_some class_name (codes "path") d o.w parts.0 o.second three.0);
+      says_start = point-is o.x parts.1 (under_some point_of (codes "from") d o.x parts.1 o.third three.1);
+      says_goal = goal-is version o.y parts.2 (under_some (goal_of version) (codes "goal") d o.y parts.2 o.fourth three.2);
+    })
 
 region-is : (version callers caller : ℕ) (d : Data) (post : Request) → has_keys region_keys d ≡ true → under (whole_below callers) (codes "caller") d ≡ Some caller
     → region_of d ≡ Some post → IsPostLine version callers caller (Asks post) d
 unfolding region_of
 region-is version callers caller d post has said e =
-    let make = λ (parts : List ℕ × (ℤ × ℤ)). Region parts.0 parts.1.0 parts.1.1 in
     let name = under class_name (codes "region") d in let place = under point_of (codes "at") d in
     let o = open_three (codes "caller") (codes "region") (codes "at") d refl has in
-    let found = map_some make (both name place) post e in let parts = found.0 in
+    let found = map_some region_by (both name place) post e in let parts = found.0 in
     let two = two_some name place parts found.1 in
     let Is : Request → Type 0 = λ p. IsPostLine version callers caller (Asks p) d in
-    subst Is found.2 (
-      o.v,
-      o.w,
-      o.x,
-      o.is,
-      caller-is callers o.v caller (under_some (whole_below callers) (codes "caller") d o.v caller o.first said),
-      name-is o.w parts.0 (under_some class_name (codes "region") d o.w parts.0 o.second two.0),
-      point-is o.x parts.1 (under_some point_of (codes "at") d o.x parts.1 o.third two.1),
-    )
+    subst Is found.2 (record {
+      who = o.v;
+      region = o.w;
+      place = o.x;
+      keys = o.is;
+      says_caller = caller-is callers o.v caller (under_some (whole_below callers) (codes "caller") d o.v caller o.first said);
+      says_class = name-is o.w parts.0 (under_some class_name (codes "region") d o.w parts.0 o.second two.0);
+      says_place = point-is o.x parts.1 (under_some point_of (codes "at") d o.x parts.1 o.third two.1);
+    })
 
 remove-from : (version callers caller id : ℕ) (d : Data) → IsPostLine version callers caller (Edits (Remove id)) d → Gives version callers caller (Edits (Remove id)) d form.Remove
 unfolding remove_of
@@ -314,35 +321,36 @@ move-from version callers caller id x z d h =
           ∙ ap (λ o. option_map Edits (option_map make (both (Some id) o))) (under_is point_of (codes "to") d h.2 (x, z) at.1.1.0 (point-from h.2 x z h.6));
     }
 
-path-from : (version callers caller : ℕ) (class : List ℕ) (x z : ℤ) (goal : GoalSpec) (d : Data) → IsPostLine version callers caller (Asks (Path class x z goal)) d
-    → Gives version callers caller (Asks (Path class x z goal)) d form.Path
+path-from : (version callers caller : ℕ) (request : PathRequest) (d : Data) → IsPathLine version callers caller request d
+    → Gives version callers caller (Asks (Path request)) d form.Path
 unfolding path_of
-path-from version callers caller class x z goal d h =
-    let make = λ (parts : List ℕ × (ℤ × ℤ) × GoalSpec). Path parts.0 parts.1.0 parts.1.1 parts.2 in
+path-from version callers caller request d h =
+    let class = request.class in let x = request.x in let z = request.z in let goal = request.goal in
     let from = under point_of (codes "from") d in let to = under (goal_of version) (codes "goal") d in
-    let values = h.0 ∷ h.1 ∷ h.2 ∷ h.3 ∷ [] in
-    let at = stand-object path_keys values d refl h.4 in
+    let values = h.who ∷ h.path ∷ h.from ∷ h.to ∷ [] in
+    let at = stand-object path_keys values d refl h.keys in
     record {
-      who = under_is (whole_below callers) (codes "caller") d h.0 caller at.0 (caller-from callers h.0 caller h.5);
-      has = has_keys-object path_keys values d refl h.4;
-      post_is = ap (λ o. option_map Asks (option_map make (all_three o from to))) (under_is class_name (codes "path") d h.1 class at.1.0 (name-from h.1 class h.6))
-          ∙ ap (λ o. option_map Asks (option_map make (all_three (Some class) o to))) (under_is point_of (codes "from") d h.2 (x, z) at.1.1.0 (point-from h.2 x z h.7))
-          ∙ ap (λ o. option_map Asks (option_map make (all_three (Some class) (Some (x, z)) o))) (under_is (goal_of version) (codes "goal") d h.3 goal at.1.1.1.0 (goal-from version h.3 goal h.8));
+      who = under_is (whole_below callers) (codes "caller") d h.who caller at.0 (caller-from callers h.who caller h.says_caller);
+      has = has_keys-object path_keys values d refl h.keys;
+      post_is = ap (λ o. option_map Asks (option_map path_by (all_three o from to))) (under_is class_name (codes "path") d h.path class at.1.0 (name-from h.path class h.says_class))
+          ∙ ap (λ o. option_map Asks (option_map path_by (all_three (Some class) o to))) (under_is point_of (codes "from") d h.from (x, z) at.1.1.0 (point-from h.from x z h.says_start))
+          ∙ ap (λ o. option_map Asks (option_map path_by (all_three (Some class) (Some (x, z)) o)))
+          (under_is (goal_of version) (codes "goal") d h.to goal at.1.1.1.0 (goal-from version h.to goal h.says_goal));
     }
 
-region-from : (version callers caller : ℕ) (class : List ℕ) (x z : ℤ) (d : Data) → IsPostLine version callers caller (Asks (Region class x z)) d
-    → Gives version callers caller (Asks (Region class x z)) d form.Region
+region-from : (version callers caller : ℕ) (query : RegionQuery) (d : Data) → IsRegionLine callers caller query d
+    → Gives version callers caller (Asks (Region query)) d form.Region
 unfolding region_of
-region-from version callers caller class x z d h =
-    let make = λ (parts : List ℕ × (ℤ × ℤ)). Region parts.0 parts.1.0 parts.1.1 in
+region-from version callers caller query d h =
+    let class = query.class in let x = query.x in let z = query.z in
     let place = under point_of (codes "at") d in
-    let values = h.0 ∷ h.1 ∷ h.2 ∷ [] in
-    let at = stand-object region_keys values d refl h.3 in
+    let values = h.who ∷ h.region ∷ h.place ∷ [] in
+    let at = stand-object region_keys values d refl h.keys in
     record {
-      who = under_is (whole_below callers) (codes "caller") d h.0 caller at.0 (caller-from callers h.0 caller h.4);
-      has = has_keys-object region_keys values d refl h.3;
-      post_is = ap (λ o. option_map Asks (option_map make (both o place))) (under_is class_name (codes "region") d h.1 class at.1.0 (name-from h.1 class h.5))
-          ∙ ap (λ o. option_map Asks (option_map make (both (Some class) o))) (under_is point_of (codes "at") d h.2 (x, z) at.1.1.0 (point-from h.2 x z h.6));
+      who = under_is (whole_below callers) (codes "caller") d h.who caller at.0 (caller-from callers h.who caller h.says_caller);
+      has = has_keys-object region_keys values d refl h.keys;
+      post_is = ap (λ o. option_map Asks (option_map region_by (both o place))) (under_is class_name (codes "region") d h.region class at.1.0 (name-from h.region class h.says_class))
+          ∙ ap (λ o. option_map Asks (option_map region_by (both (Some class) o))) (under_is point_of (codes "at") d h.place (x, z) at.1.1.0 (point-from h.place x z h.says_place));
     }
 
 -- ---- all post lines
@@ -352,15 +360,15 @@ abbrev form_for : Post → Form
 form_for (Edits (Add id o)) = add_form o.shape
 form_for (Edits (Remove id)) = form.Remove
 form_for (Edits (Move id x z)) = form.Move
-form_for (Asks (Path class x z goal)) = form.Path
-form_for (Asks (Region class x z)) = form.Region
+form_for (Asks (Path request)) = form.Path
+form_for (Asks (Region query)) = form.Region
 
 gives : (version callers caller : ℕ) (post : Post) (d : Data) → IsPostLine version callers caller post d → Gives version callers caller post d (form_for post)
 gives version callers caller (Edits (Add id o)) d h = add-from version callers caller id o.mask o.shape d h
 gives version callers caller (Edits (Remove id)) d h = remove-from version callers caller id d h
 gives version callers caller (Edits (Move id x z)) d h = move-from version callers caller id x z d h
-gives version callers caller (Asks (Path class x z goal)) d h = path-from version callers caller class x z goal d h
-gives version callers caller (Asks (Region class x z)) d h = region-from version callers caller class x z d h
+gives version callers caller (Asks (Path request)) d h = path-from version callers caller request d h
+gives version callers caller (Asks (Region query)) d h = region-from version callers caller query d h
 
 edit-is : (version callers caller : ℕ) (d : Data) (o : Option Edit) (post : Post) → option_map Edits o ≡ Some post
     → ((edit : Edit) → o ≡ Some edit → IsPostLine version callers caller (Edits edit) d) → IsPostLine version callers caller post d

@@ -41,8 +41,8 @@ has_line : (version callers caller : ℕ) (post : Post) (d : Data) → IsPostLin
 has_line version callers caller (Edits (Add id o)) d (c, add, shape, keys, who, number, decimals) = has_mask version o.mask (shape_key o.shape) c add shape d keys
 has_line version callers caller (Edits (Remove id)) d says = refl
 has_line version callers caller (Edits (Move id x z)) d (c, move, to, keys, who, number, at, newest) = le-leb 3 version newest
-has_line version callers caller (Asks (Path class x z goal)) d (c, path, from, to, keys, who, name, at, is) = has_goal version goal to is
-has_line version callers caller (Asks (Region class x z)) d says = refl
+has_line version callers caller (Asks (Path request)) d says = has_goal version request.goal says.to says.says_goal
+has_line version callers caller (Asks (Region query)) d says = refl
 
 found_has : (version callers : ℕ) (d : Option Data) (said : CallerPost) → option_and_then (post_of version callers) d ≡ Some said
     → is_post_of version said.post ≡ true

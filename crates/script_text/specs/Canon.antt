@@ -114,10 +114,11 @@ post_json version caller (Edits (Add id o)) =
 post_json version caller (Edits (Remove id)) = form_json version form.Remove (whole_json caller ∷ whole_json id ∷ [])
 post_json version caller (Edits (Move id x z)) =
     form_json version form.Move (whole_json caller ∷ whole_json id ∷ decimals_json (x ∷ z ∷ []) ∷ [])
-post_json version caller (Asks (Path class x z goal)) =
-    form_json version form.Path (whole_json caller ∷ string class ∷ decimals_json (x ∷ z ∷ []) ∷ goal_json goal ∷ [])
-post_json version caller (Asks (Region class x z)) =
-    form_json version form.Region (whole_json caller ∷ string class ∷ decimals_json (x ∷ z ∷ []) ∷ [])
+post_json version caller (Asks (Path request)) =
+    form_json version form.Path (
+    whole_json caller ∷ string request.class ∷ decimals_json (request.x ∷ request.z ∷ []) ∷ goal_json request.goal ∷ [])
+post_json version caller (Asks (Region query)) =
+    form_json version form.Region (whole_json caller ∷ string query.class ∷ decimals_json (query.x ∷ query.z ∷ []) ∷ [])
 
 -- the lines of a caller's posts, in their order
 unfoldable pub canon_posts : ℕ → ℕ → List Post → List ℕ
@@ -147,8 +148,8 @@ abbrev pub is_post_of : ℕ → Post → Bool
 is_post_of version (Edits (Add id o)) = nat_le FIRST_WITH_MASKS version || o.mask == 65535
 is_post_of version (Edits (Remove id)) = true
 is_post_of version (Edits (Move id x z)) = nat_le FIRST_WITH_MOVES version
-is_post_of version (Asks (Path class x z goal)) = is_goal_of version goal
-is_post_of version (Asks (Region class x z)) = true
+is_post_of version (Asks (Path request)) = is_goal_of version request.goal
+is_post_of version (Asks (Region query)) = true
 
 -- each post has a line in a script of this version
 abbrev pub HaveLines : ℕ → List (List Post) → Type 0

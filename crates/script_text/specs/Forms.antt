@@ -95,11 +95,11 @@ move_of d = option_map (λ parts. Move parts.0 parts.1.0 parts.1.1)
     (both (under obstruction_number (key_text key.Move) d) (under point_of (key_text key.To) d))
 
 unfoldable pub path_of : ℕ → Data → Option Request
-path_of version d = option_map (λ parts. Path parts.0 parts.1.0 parts.1.1 parts.2)
+path_of version d = option_map (λ parts. Path (record { class = parts.0; x = parts.1.0; z = parts.1.1; goal = parts.2 }))
     (all_three (under class_name (key_text key.Path) d) (under point_of (key_text key.From) d) (under (goal_of version) (key_text key.Goal) d))
 
 unfoldable pub region_of : Data → Option Request
-region_of d = option_map (λ parts. Region parts.0 parts.1.0 parts.1.1)
+region_of d = option_map (λ parts. Region (record { class = parts.0; x = parts.1.0; z = parts.1.1 }))
     (both (under class_name (key_text key.Region) d) (under point_of (key_text key.At) d))
 
 -- the post of a line that has the keys of this form

@@ -20,6 +20,8 @@ use Rattle.goal_shapes.specs.declared.goals.GoalSpec.TheVariants.{Plain, Obstruc
 use Rattle.posts.specs.declared.posts.Post.{Post}
 use Rattle.posts.specs.declared.edits.Edit.TheVariants.{Add, Remove, Move}
 use Rattle.posts.specs.declared.posts.Post.TheVariants.{Edit as Edits, Ask as Asks}
+use Rattle.posts.specs.declared.posts.PathRequest.{PathRequest}
+use Rattle.posts.specs.declared.posts.RegionQuery.{RegionQuery}
 use Rattle.posts.specs.declared.posts.Request.TheVariants.{Path, Region}
 use Rattle.posts.specs.Maps.{Map}
 use Rattle.script_text.specs.declared.forms.CallerPost.{CallerPost}
@@ -209,6 +211,28 @@ HasAddKeys version mask key caller add shape d =
 abbrev pub IsCaller : ℕ → ℕ → Data → Type 0
 IsCaller callers caller d = IsWholeNumber caller d × (caller < callers)
 
+-- the line of a request for a path, with what stands under each of its keys
+pub record IsPathLine (version callers caller : ℕ) (request : PathRequest) (d : Data) : Type 0 where
+  pub who : Data
+  pub path : Data
+  pub from : Data
+  pub to : Data
+  pub keys : IsObject path_keys (who ∷ path ∷ from ∷ to ∷ []) d
+  pub says_caller : IsCaller callers caller who
+  pub says_class : IsName request.class path
+  pub says_start : IsArray IsDecimal (request.x ∷ request.z ∷ []) from
+  pub says_goal : IsGoal version request.goal to
+
+-- the line of a region query
+pub record IsRegionLine (callers caller : ℕ) (query : RegionQuery) (d : Data) : Type 0 where
+  pub who : Data
+  pub region : Data
+  pub place : Data
+  pub keys : IsObject region_keys (who ∷ region ∷ place ∷ []) d
+  pub says_caller : IsCaller callers caller who
+  pub says_class : IsName query.class region
+  pub says_place : IsArray IsDecimal (query.x ∷ query.z ∷ []) place
+
 abbrev pub IsPostLine : ℕ → ℕ → ℕ → Post → Data → Type 0
 IsPostLine version callers caller (Edits (Add id o)) d =
     (c : Data) × (add : Data) × (shape : Data) × HasAddKeys version o.mask (shape_key o.shape) c add shape d
@@ -219,14 +243,8 @@ IsPostLine version callers caller (Edits (Remove id)) d =
 IsPostLine version callers caller (Edits (Move id x z)) d =
     (c : Data) × (move : Data) × (to : Data) × IsObject move_keys (c ∷ move ∷ to ∷ []) d
     × IsCaller callers caller c × IsNumber id move × IsArray IsDecimal (x ∷ z ∷ []) to × (3 ≤ version)
-IsPostLine version callers caller (Asks (Path class x z goal)) d =
-    (c : Data) × (path : Data) × (from : Data) × (to : Data)
-    × IsObject path_keys (c ∷ path ∷ from ∷ to ∷ []) d
-    × IsCaller callers caller c × IsName class path × IsArray IsDecimal (x ∷ z ∷ []) from × IsGoal version goal to
-IsPostLine version callers caller (Asks (Region class x z)) d =
-    (c : Data) × (region : Data) × (place : Data)
-    × IsObject region_keys (c ∷ region ∷ place ∷ []) d
-    × IsCaller callers caller c × IsName class region × IsArray IsDecimal (x ∷ z ∷ []) place
+IsPostLine version callers caller (Asks (Path request)) d = IsPathLine version callers caller request d
+IsPostLine version callers caller (Asks (Region query)) d = IsRegionLine callers caller query d
 
 -- ---- the end line
 

@@ -35,8 +35,9 @@ abbrev pub IsPostValue : Post → Type 0
 IsPostValue (Edits (Add id o)) = (id ≤ 4294967295) × AreFixed (shape_decimals o.shape) × (o.mask ≤ 65535)
 IsPostValue (Edits (Remove id)) = id ≤ 4294967295
 IsPostValue (Edits (Move id x z)) = (id ≤ 4294967295) × AreFixed (x ∷ z ∷ [])
-IsPostValue (Asks (Path class x z goal)) = IsTrue (is_class_name class) × AreFixed (x ∷ z ∷ []) × IsGoalValue goal
-IsPostValue (Asks (Region class x z)) = IsTrue (is_class_name class) × AreFixed (x ∷ z ∷ [])
+IsPostValue (Asks (Path request)) =
+    IsTrue (is_class_name request.class) × AreFixed (request.x ∷ request.z ∷ []) × IsGoalValue request.goal
+IsPostValue (Asks (Region query)) = IsTrue (is_class_name query.class) × AreFixed (query.x ∷ query.z ∷ [])
 
 -- the posts of a turn, by caller
 abbrev pub ArePostValues : List (List Post) → Type 0

@@ -50,8 +50,8 @@ fn is_post_of(version: u8, post: &Post) -> bool
         }
         Post::Edit(Edit::Remove { .. }) => true,
         Post::Edit(Edit::Move { .. }) => version >= FIRST_WITH_MOVES,
-        Post::Ask(Request::Path { goal, .. }) => is_goal_of(version, *goal),
-        Post::Ask(Request::Region { .. }) => true,
+        Post::Ask(Request::Path(request)) => is_goal_of(version, request.goal),
+        Post::Ask(Request::Region(_)) => true,
     }
 }
 

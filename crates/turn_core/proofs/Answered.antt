@@ -10,9 +10,9 @@ use Rattle.fixed_point.specs.Plane.{IsOnAxis}
 use Rattle.class_config.specs.declared.table.PassabilityClass.{PassabilityClass}
 use Rattle.goal_shapes.specs.Goals.{HoldsPoint}
 use Rattle.goal_shapes.specs.declared.goals.Goal.{Goal}
-use Rattle.goal_shapes.specs.declared.goals.GoalSpec.{GoalSpec}
 use Rattle.posts.specs.declared.edits.Refusal.{Refusal}
 use Rattle.posts.specs.declared.edits.Refusal.TheVariants.{StartOutside}
+use Rattle.posts.specs.declared.posts.PathRequest.{PathRequest}
 use Rattle.posts.specs.declared.posts.Request.{Request}
 use Rattle.posts.specs.declared.replies.Answer.{Answer}
 use Rattle.posts.specs.declared.replies.Answer.TheVariants.{Refused}
@@ -108,14 +108,14 @@ note_by IsOne IsOther (IsRegion region) note other is = is
 note_by IsOne IsOther (Refused refusal) note other is = is
 note_by IsOne IsOther Nowhere note other is = is
 
--- the note of a path of a class by its name to a goal as it is named
-pub note_for : (map : Map) (standing : Standing) (report : Report) (name : List ℕ) (spec : GoalSpec) (class : ℕ) (goal : Goal) (result : Result Noted NoMemory)
-    → class_named map name ≡ Some class → Ok goal ≡ goal_found map standing spec
+-- the note of a path of the class and to the goal that a request names
+pub note_for : (map : Map) (standing : Standing) (report : Report) (request : PathRequest) (class : ℕ) (goal : Goal) (result : Result Noted NoMemory)
+    → class_named map request.class ≡ Some class → Ok goal ≡ goal_found map standing request.goal
     → IfOk result (λ (noted : Noted). IsNoteBy (IsNoteTo report (passable_at map standing class) map.size goal) noted.answer noted.note)
-    → IfOk result (λ (noted : Noted). IsNoteBy (IsPathNote map standing report name spec) noted.answer noted.note)
-note_for map standing report name spec class goal (Err refused) named found is = tt
-note_for map standing report name spec class goal (Ok noted) named found is =
-    note_by (IsNoteTo report (passable_at map standing class) map.size goal) (IsPathNote map standing report name spec) noted.answer noted.note
+    → IfOk result (λ (noted : Noted). IsNoteBy (IsPathNote map standing report request) noted.answer noted.note)
+note_for map standing report request class goal (Err refused) named found is = tt
+note_for map standing report request class goal (Ok noted) named found is =
+    note_by (IsNoteTo report (passable_at map standing class) map.size goal) (IsPathNote map standing report request) noted.answer noted.note
     (λ path told. record { class = class; named = named; goal = goal; found = sym found; noted = told }) is
 
 -- an answer with its note

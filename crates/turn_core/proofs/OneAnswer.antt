@@ -94,13 +94,15 @@ one_at (Some class) true Answers a b one p q = one class p q
 
 pub one_answer_to : (map : Map) (standing : Standing) (request : Request) (a b : Answer) → IsAnswerTo map standing request a → IsAnswerTo map standing request b → a ≡ b
 unfolding IsAnswerTo
-one_answer_to map standing (AsksPath name x z goal) a b p q =
-    let Answers : ℕ → Answer → Type 0 = λ class. IsPathFound (passable_at map standing class) x z (goal_found map standing goal) in
-    one_at (class_named map name) (is_on_map map.size x z) Answers a b
-    (λ class. one_path_found (passable_at map standing class) x z (goal_found map standing goal) a b) p q
-one_answer_to map standing (AsksRegion name x z) a b p q =
-    let Answers : ℕ → Answer → Type 0 = λ class. IsRegionAt (passable_at map standing class) x z in
-    one_at (class_named map name) (is_on_map map.size x z) Answers a b (λ class. one_region_at (passable_at map standing class) x z a b) p q
+one_answer_to map standing (AsksPath request) a b p q =
+    let found = goal_found map standing request.goal in
+    let Answers : ℕ → Answer → Type 0 = λ class. IsPathFound (passable_at map standing class) request.x request.z found in
+    one_at (class_named map request.class) (is_on_map map.size request.x request.z) Answers a b
+    (λ class. one_path_found (passable_at map standing class) request.x request.z found a b) p q
+one_answer_to map standing (AsksRegion query) a b p q =
+    let Answers : ℕ → Answer → Type 0 = λ class. IsRegionAt (passable_at map standing class) query.x query.z in
+    one_at (class_named map query.class) (is_on_map map.size query.x query.z) Answers a b
+    (λ class. one_region_at (passable_at map standing class) query.x query.z a b) p q
 
 pub answers_itemwise : (map : Map) (standing : Standing) → IsItemwise (IsAnswerTo map standing) (AreAnswersTo map standing)
 answers_itemwise map standing = record {

@@ -8,7 +8,6 @@ use Rattle.nav_types.specs.declared.cells.Size.{Size}
 use Rattle.nav_types.specs.Counting.{Counts}
 use Rattle.nav_types.proofs.Counting.{Counts-unique}
 use Rattle.goal_shapes.specs.declared.goals.Goal.{Goal}
-use Rattle.goal_shapes.specs.declared.goals.GoalSpec.{GoalSpec}
 use Rattle.goal_reach.specs.declared.targets.Target.{Target}
 use Rattle.goal_reach.specs.Targets.{hit_by, framed_by, AreTargets}
 use Rattle.goal_reach.proofs.Targeting.{one_target}
@@ -25,6 +24,7 @@ use Rattle.posts.specs.declared.notes.FlowLine.{FlowLine}
 use Rattle.posts.specs.declared.notes.Note.TheVariants.{Nothing, Opened, Flow, Smoothed}
 use Rattle.posts.specs.declared.notes.Report.{Report}
 use Rattle.posts.specs.declared.notes.Report.TheVariants.{Answers, OpenedNumbers, Flows, Smoothed as SmoothedPaths}
+use Rattle.posts.specs.declared.posts.PathRequest.{PathRequest}
 use Rattle.posts.specs.declared.posts.Request.{Request}
 use Rattle.posts.specs.declared.posts.Request.TheVariants.{Path as AsksPath, Region as AsksRegion}
 use Rattle.posts.specs.declared.replies.PathAnswer.{PathAnswer}
@@ -76,14 +76,14 @@ one_to report passes size goal path m n p q =
     let target : p.target ≡ q.target = one_target passes path.start goal p.target q.target p.targets q.targets in
     one_told report passes size q.target path m n (subst (λ (t : Target). IsTold report passes size t path m) target p.told) q.told
 
-one_for : (map : Map) (standing : Standing) (report : Report) (name : List ℕ) (spec : GoalSpec) (path : PathAnswer) (m n : Note)
-    → IsPathNote map standing report name spec path m → IsPathNote map standing report name spec path n → m ≡ n
-one_for map standing report name spec path m n p q =
-    let one_class : class_named map name ≡ Some p.class = p.named in
-    let other_class : class_named map name ≡ Some q.class = q.named in
+one_for : (map : Map) (standing : Standing) (report : Report) (request : PathRequest) (path : PathAnswer) (m n : Note)
+    → IsPathNote map standing report request path m → IsPathNote map standing report request path n → m ≡ n
+one_for map standing report request path m n p q =
+    let one_class : class_named map request.class ≡ Some p.class = p.named in
+    let other_class : class_named map request.class ≡ Some q.class = q.named in
     let class : p.class ≡ q.class = cc in
-    let one_goal : goal_found map standing spec ≡ Ok p.goal = p.found in
-    let other_goal : goal_found map standing spec ≡ Ok q.goal = q.found in
+    let one_goal : goal_found map standing request.goal ≡ Ok p.goal = p.found in
+    let other_goal : goal_found map standing request.goal ≡ Ok q.goal = q.found in
     let goal : p.goal ≡ q.goal = cc in
     let noted : IsNoteTo report (passable_at map standing q.class) map.size p.goal path m =
     subst (λ (c : ℕ). IsNoteTo report (passable_at map standing c) map.size p.goal path m) class p.noted in
@@ -92,11 +92,11 @@ one_for map standing report name spec path m n p q =
 
 one_of : (map : Map) (standing : Standing) (report : Report) (request : Request) (answer : Answer) (m n : Note)
     → IsNoteOf map standing report request answer m → IsNoteOf map standing report request answer n → m ≡ n
-one_of map standing report (AsksPath name x z goal) (IsPath path) m n p q = one_for map standing report name goal path m n p q
-one_of map standing report (AsksPath name x z goal) (IsRegion region) m n p q = p ∙ sym q
-one_of map standing report (AsksPath name x z goal) (Refused refusal) m n p q = p ∙ sym q
-one_of map standing report (AsksPath name x z goal) Nowhere m n p q = p ∙ sym q
-one_of map standing report (AsksRegion name x z) answer m n p q = p ∙ sym q
+one_of map standing report (AsksPath request) (IsPath path) m n p q = one_for map standing report request path m n p q
+one_of map standing report (AsksPath request) (IsRegion region) m n p q = p ∙ sym q
+one_of map standing report (AsksPath request) (Refused refusal) m n p q = p ∙ sym q
+one_of map standing report (AsksPath request) Nowhere m n p q = p ∙ sym q
+one_of map standing report (AsksRegion query) answer m n p q = p ∙ sym q
 
 -- a request has one note
 pub one_note_of : (map : Map) (standing : Standing) (report : Report) (request : Request) (a b : Note)
@@ -132,11 +132,11 @@ notes_by_place map standing report =
 -- ---- the report of answers
 
 nothing_told_of : (map : Map) (standing : Standing) (request : Request) (answer : Answer) (note : Note) → IsNoteOf map standing Answers request answer note → note ≡ Nothing
-nothing_told_of map standing (AsksPath name x z goal) (IsPath path) note is = is.noted.told
-nothing_told_of map standing (AsksPath name x z goal) (IsRegion region) note is = is
-nothing_told_of map standing (AsksPath name x z goal) (Refused refusal) note is = is
-nothing_told_of map standing (AsksPath name x z goal) Nowhere note is = is
-nothing_told_of map standing (AsksRegion name x z) answer note is = is
+nothing_told_of map standing (AsksPath request) (IsPath path) note is = is.noted.told
+nothing_told_of map standing (AsksPath request) (IsRegion region) note is = is
+nothing_told_of map standing (AsksPath request) (Refused refusal) note is = is
+nothing_told_of map standing (AsksPath request) Nowhere note is = is
+nothing_told_of map standing (AsksRegion query) answer note is = is
 
 -- a path that answers goes to a goal that is found, for a class of the map
 path_asked : (passes : ℕ → Cell → Bool) (x z : ℤ) (named : Option ℕ) (on_map : Bool) (found : Result Goal Refusal) (path : PathAnswer)
@@ -155,8 +155,9 @@ path_asked passes x z (Some class) true (Ok goal) path (inr some_path) =
 -- under the report of answers there is such a note
 note_of_answer : (map : Map) (standing : Standing) (request : Request) (answer : Answer) → IsAnswerTo map standing request answer → IsNoteOf map standing Answers request answer Nothing
 unfolding IsAnswerTo
-note_of_answer map standing (AsksPath name x z goal) (IsPath path) is =
-    let asked = path_asked (passable_at map standing) x z (class_named map name) (is_on_map map.size x z) (goal_found map standing goal) path is in
+note_of_answer map standing (AsksPath request) (IsPath path) is =
+    let asked = path_asked (passable_at map standing) request.x request.z (class_named map request.class) (is_on_map map.size request.x request.z)
+    (goal_found map standing request.goal) path is in
     record {
       class = asked.0;
       named = asked.1.1.1.0;
@@ -164,10 +165,10 @@ note_of_answer map standing (AsksPath name x z goal) (IsPath path) is =
       found = asked.1.1.1.1.0;
       noted = record { target = asked.1.1.0; targets = asked.1.1.1.1.1; told = refl };
     }
-note_of_answer map standing (AsksPath name x z goal) (IsRegion region) is = refl
-note_of_answer map standing (AsksPath name x z goal) (Refused refusal) is = refl
-note_of_answer map standing (AsksPath name x z goal) Nowhere is = refl
-note_of_answer map standing (AsksRegion name x z) answer is = refl
+note_of_answer map standing (AsksPath request) (IsRegion region) is = refl
+note_of_answer map standing (AsksPath request) (Refused refusal) is = refl
+note_of_answer map standing (AsksPath request) Nowhere is = refl
+note_of_answer map standing (AsksRegion query) answer is = refl
 
 -- answers alone have notes that tell nothing
 pub answers_tell_nothing : (map : Map) (standing : Standing) (requests : List Request) (notes : List Note)

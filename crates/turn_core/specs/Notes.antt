@@ -6,7 +6,6 @@ use Rattle.nav_types.specs.declared.cells.Size.{Size}
 use Rattle.nav_types.specs.Counting.{Counts}
 use Rattle.nav_types.specs.Frames.{IsFrame}
 use Rattle.goal_shapes.specs.declared.goals.Goal.{Goal}
-use Rattle.goal_shapes.specs.declared.goals.GoalSpec.{GoalSpec}
 use Rattle.goal_reach.specs.declared.targets.Target.{Target}
 use Rattle.goal_reach.specs.Targets.{hit_by, framed_by, AreTargets}
 use Rattle.jump_search.specs.JumpStates.{IsOpened}
@@ -19,6 +18,7 @@ use Rattle.posts.specs.declared.notes.Note.TheVariants.{Nothing, Opened, Flow, S
 use Rattle.posts.specs.declared.notes.Noted.{Noted}
 use Rattle.posts.specs.declared.notes.Report.{Report}
 use Rattle.posts.specs.declared.notes.Report.TheVariants.{Answers, OpenedNumbers, Flows, Smoothed as SmoothedPaths}
+use Rattle.posts.specs.declared.posts.PathRequest.{PathRequest}
 use Rattle.posts.specs.declared.posts.Request.{Request}
 use Rattle.posts.specs.declared.posts.Request.TheVariants.{Path as AsksPath, Region as AsksRegion}
 use Rattle.posts.specs.declared.replies.PathAnswer.{PathAnswer}
@@ -68,13 +68,12 @@ pub record IsNoteTo (report : Report) (passes : Cell → Bool) (size : Size) (go
   pub targets : AreTargets passes path.start goal target
   pub told : IsTold report passes size target path note
 
--- the note of a path of a class by its name to a goal as a request names it
-pub record IsPathNote (map : Map) (standing : Standing) (report : Report) (name : List ℕ) (spec : GoalSpec) (path : PathAnswer)
-    (note : Note) : Type 0 where
+-- the note of a path of the class and to the goal that a request names
+pub record IsPathNote (map : Map) (standing : Standing) (report : Report) (request : PathRequest) (path : PathAnswer) (note : Note) : Type 0 where
   pub class : ℕ
-  pub named : class_named map name ≡ Some class
+  pub named : class_named map request.class ≡ Some class
   pub goal : Goal
-  pub found : goal_found map standing spec ≡ Ok goal
+  pub found : goal_found map standing request.goal ≡ Ok goal
   pub noted : IsNoteTo report (passable_at map standing class) map.size goal path note
 
 -- the note of an answer that may be a path; of one that is none, nothing is told
@@ -84,8 +83,8 @@ IsNoteBy IsNoteOfPath answer note = note ≡ Nothing
 
 -- the note of an answer to a request under a report
 abbrev pub IsNoteOf : Map → Standing → Report → Request → Answer → Note → Type 0
-IsNoteOf map standing report (AsksPath name x z goal) answer note = IsNoteBy (IsPathNote map standing report name goal) answer note
-IsNoteOf map standing report (AsksRegion name x z) answer note = note ≡ Nothing
+IsNoteOf map standing report (AsksPath request) answer note = IsNoteBy (IsPathNote map standing report request) answer note
+IsNoteOf map standing report (AsksRegion query) answer note = note ≡ Nothing
 
 -- the answer to a request with its note
 pub record IsNotedTo (map : Map) (standing : Standing) (report : Report) (request : Request) (noted : Noted) : Type 0 where

@@ -12,6 +12,8 @@ use Rattle.goal_reach.specs.Targets.{hit_by, AreTargets}
 use Rattle.walks.specs.Chosen.{IsAnswer}
 use Rattle.posts.specs.declared.edits.Refusal.{Refusal}
 use Rattle.posts.specs.declared.edits.Refusal.TheVariants.{UnknownClass, StartOutside}
+use Rattle.posts.specs.declared.posts.PathRequest.{PathRequest}
+use Rattle.posts.specs.declared.posts.RegionQuery.{RegionQuery}
 use Rattle.posts.specs.declared.posts.Request.{Request}
 use Rattle.posts.specs.declared.posts.Request.TheVariants.{Path as AsksPath, Region as AsksRegion}
 use Rattle.posts.specs.declared.replies.PathAnswer.{PathAnswer}
@@ -70,13 +72,22 @@ IsAnswerAt None on_map Answers answer = answer ≡ Refused UnknownClass
 IsAnswerAt (Some class) false Answers answer = answer ≡ Refused StartOutside
 IsAnswerAt (Some class) true Answers answer = Answers class answer
 
+-- the answer to a request for a path on the map with what stands on it
+abbrev pub IsPathAsked : Map → Standing → PathRequest → Answer → Type 0
+IsPathAsked map standing request answer =
+    IsAnswerAt (class_named map request.class) (is_on_map map.size request.x request.z)
+    (λ class. IsPathFound (passable_at map standing class) request.x request.z (goal_found map standing request.goal)) answer
+
+-- the answer to a region query
+abbrev pub IsRegionAsked : Map → Standing → RegionQuery → Answer → Type 0
+IsRegionAsked map standing query answer =
+    IsAnswerAt (class_named map query.class) (is_on_map map.size query.x query.z)
+    (λ class. IsRegionAt (passable_at map standing class) query.x query.z) answer
+
 -- The answer is one to the request on the map with what stands on it.
 unfoldable pub IsAnswerTo : Map → Standing → Request → Answer → Type 0
-IsAnswerTo map standing (AsksPath name x z goal) answer =
-    IsAnswerAt (class_named map name) (is_on_map map.size x z)
-    (λ class. IsPathFound (passable_at map standing class) x z (goal_found map standing goal)) answer
-IsAnswerTo map standing (AsksRegion name x z) answer =
-    IsAnswerAt (class_named map name) (is_on_map map.size x z) (λ class. IsRegionAt (passable_at map standing class) x z) answer
+IsAnswerTo map standing (AsksPath request) answer = IsPathAsked map standing request answer
+IsAnswerTo map standing (AsksRegion query) answer = IsRegionAsked map standing query answer
 
 -- one answer to each request, in their order
 abbrev pub AreAnswersTo : Map → Standing → List Request → List Answer → Type 0

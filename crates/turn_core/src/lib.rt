@@ -31,12 +31,12 @@
 //!     x: navcells(4),
 //!     z: navcells(3),
 //! });
-//! let path = Request::Path {
+//! let path = Request::Path(PathRequest {
 //!     class,
 //!     x: navcells(0),
 //!     z: navcells(0),
 //!     goal,
-//! };
+//! });
 //! let mut lists = empty_lists(alloc, 1).expect(&rt, "memory");
 //! push_post(&mut lists, 0, Post::Ask(path)).expect(&rt, "memory");
 //!
@@ -83,8 +83,8 @@ pub use near_answers::solve_within;
 pub use one_threads::OneThread;
 pub use posts::{
     AllReplies, Answer, Answers, CallerReplies, FlowLine, FlowSummary, Jobs, Journal, Note, Noted,
-    Notes, PathAnswer, Post, Posts, RegionAnswer, Replies, Reply, Report, Request, TurnPosts,
-    TurnReplies, count_posts, empty_lists, push_post,
+    Notes, PathAnswer, PathRequest, Post, Posts, RegionAnswer, RegionQuery, Replies, Reply, Report,
+    Request, TurnPosts, TurnReplies, count_posts, empty_lists, push_post,
 };
 pub use ready_turns::{AnsweredTurn, ReadyTurn};
 pub use reports::REPORTS;

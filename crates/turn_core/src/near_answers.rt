@@ -4,8 +4,7 @@ ghost use Rattle.fixed_point.specs.Plane.{IsOnAxis};
 ghost use Rattle.goal_shapes.specs.Limits.{IsSoundGoal};
 ghost use Rattle.grid_versions.specs.Passing.{passable_at};
 ghost use Rattle.grid_versions.specs.Versions.{passes_of};
-ghost use Rattle.turn_core.specs.NamedGoals.{class_named, goal_found, is_on_map};
-ghost use Rattle.turn_core.specs.Solving.{IsAnswerAt, IsAnswerTo, IsPathFound, IsPathTo};
+ghost use Rattle.turn_core.specs.Solving.{IsAnswerTo, IsPathAsked, IsPathTo};
 ghost use Rattle.turn_core.specs.Within.{IsAnswerWithin};
 ghost use Rattle.turn_core.specs.inner.Searching.{CanFind};
 ghost use Rattle.turn_core.specs.inner.Wanted.{IsFoundWithin, IsWalkedWithin, IsWanted};
@@ -13,14 +12,13 @@ ghost use Rattle.turn_core.specs.inner.Wanted.{IsFoundWithin, IsWalkedWithin, Is
 use crate::named_goals::goal_of;
 use crate::searches::TargetSearch;
 use crate::solving::{asked_at, region_asked, start_cell};
-use class_config::ClassName;
 use fixed_point::Fixed;
 use goal_reach::{Target, made_reachable};
-use goal_shapes::{Goal, GoalSpec};
+use goal_shapes::Goal;
 use grid_versions::Version;
 use jump_search::{Guided, JumpSearch, Pool};
 use nav_types::{Cell, Class, NoMemory};
-use posts::{Answer, Request};
+use posts::{Answer, PathRequest, Request};
 use std::alloc::Global;
 use walks::Found;
 
@@ -65,20 +63,18 @@ fn want_of(version: &Version, request: &Request) -> Wanted
     ensures { IsWanted version.now (IsAnswerTo version.now.map version.now.standing request.now) result }
 {
     match request {
-        Request::Path { class, x, z, goal } => want_of_path(version, class, *x, *z, goal),
-        Request::Region { class, x, z } => Wanted::Known(region_asked(version, class, *x, *z)),
+        Request::Path(request) => want_of_path(version, request),
+        Request::Region(query) => Wanted::Known(region_asked(version, query)),
     }
 }
 
-/// What a path of a class by its name wants, from the point (`x`, `z`).
-fn want_of_path(version: &Version, name: &ClassName, x: Fixed, z: Fixed, goal: &GoalSpec) -> Wanted
-    ensures { IsWanted version.now (IsAnswerAt (class_named version.now.map name.now) (is_on_map version.now.map.size x z)
-        (λ class. IsPathFound (passable_at version.now.map version.now.standing class) x z
-        (goal_found version.now.map version.now.standing goal.now))) result }
+/// What a request for a path wants.
+fn want_of_path(version: &Version, request: &PathRequest) -> Wanted
+    ensures { IsWanted version.now (IsPathAsked version.now.map version.now.standing request.now) result }
 {
-    match asked_at(version, name, x, z) {
-        Ok(asked) => match goal_of(version, goal) {
-            Ok(goal) => walk_to(version, asked.class, x, z, &goal),
+    match asked_at(version, &request.class, request.x, request.z) {
+        Ok(asked) => match goal_of(version, &request.goal) {
+            Ok(goal) => walk_to(version, asked.class, request.x, request.z, &goal),
             Err(refusal) => Wanted::Known(Answer::Refused(refusal)),
         },
         Err(refusal) => Wanted::Known(Answer::Refused(refusal)),

@@ -8,8 +8,7 @@ ghost use Rattle.posts.specs.declared.notes.Note.{Note};
 ghost use Rattle.posts.specs.declared.notes.Report.TheVariants.{Flows};
 ghost use Rattle.grid_versions.specs.Passing.{passable_at};
 ghost use Rattle.grid_versions.specs.Versions.{passes_of};
-ghost use Rattle.turn_core.specs.NamedGoals.{class_named, is_on_map, goal_found};
-ghost use Rattle.turn_core.specs.Solving.{IsPathTo, IsPathFound, IsRegionAnswer, IsRegionAt, IsAnswerAt};
+ghost use Rattle.turn_core.specs.Solving.{IsPathTo, IsPathAsked, IsRegionAnswer, IsRegionAsked};
 ghost use Rattle.goal_reach.specs.Starts.{IsStartCell};
 ghost use Rattle.turn_core.specs.Solving.{IsAnswerTo, IsImpassable};
 ghost use Rattle.turn_core.specs.Notes.{IsNoteBy, IsNoteTo, IsNote, IsNotedTo, IsPathNote, flow_in};
@@ -22,11 +21,13 @@ use crate::searches::{NotedPath, TargetSearch};
 use class_config::ClassName;
 use fixed_point::Fixed;
 use goal_reach::{Target, made_reachable, nearest_passable};
-use goal_shapes::{Goal, GoalSpec, cell_of_point};
+use goal_shapes::{Goal, cell_of_point};
 use grid_versions::{Refusal, Version};
 use jump_search::Pool;
 use nav_types::{Areas, Cell, Class, NoMemory};
-use posts::{Answer, FlowLine, Note, Noted, RegionAnswer, Report, Request};
+use posts::{
+    Answer, FlowLine, Note, Noted, PathRequest, RegionAnswer, RegionQuery, Report, Request,
+};
 use std::alloc::Global;
 use std::marker::Model;
 
@@ -143,34 +144,25 @@ impl<'a> Solver<'a> {
         ensures same { self.new ≡ self.old }
     {
         match request {
-            Request::Path { class, x, z, goal } => self.path_asked(alloc, class, *x, *z, goal),
-            Request::Region { class, x, z } => Ok(Noted {
-                answer: region_asked(self.version, class, *x, *z),
+            Request::Path(request) => self.path_asked(alloc, request),
+            Request::Region(query) => Ok(Noted {
+                answer: region_asked(self.version, query),
                 note: Note::Nothing,
             }),
         }
     }
 
-    /// The answer to a path of a class by its name, from the point (`x`, `z`).
-    fn path_asked(
-        &mut self,
-        alloc: Global,
-        name: &ClassName,
-        x: Fixed,
-        z: Fixed,
-        goal: &GoalSpec,
-    ) -> Result<Noted, NoMemory>
-        ensures answer { IfOk result (λ noted. IsAnswerAt (class_named self.old.state.map name.now)
-            (is_on_map self.old.state.map.size x z)
-            (λ class. IsPathFound (passable_at self.old.state.map self.old.state.standing class) x z
-            (goal_found self.old.state.map self.old.state.standing goal.now)) noted.answer) }
+    /// The answer to a request for a path.
+    fn path_asked(&mut self, alloc: Global, request: &PathRequest) -> Result<Noted, NoMemory>
+        ensures answer { IfOk result (λ noted. IsPathAsked self.old.state.map self.old.state.standing request.now
+            noted.answer) }
         ensures note { IfOk result (λ noted. IsNoteBy (IsPathNote self.old.state.map self.old.state.standing self.old.report
-            name.now goal.now) noted.answer noted.note) }
+            request.now) noted.answer noted.note) }
         ensures same { self.new ≡ self.old }
     {
-        match asked_at(self.version, name, x, z) {
-            Ok(asked) => match goal_of(self.version, goal) {
-                Ok(goal) => self.path_to(alloc, asked.class, x, z, &goal),
+        match asked_at(self.version, &request.class, request.x, request.z) {
+            Ok(asked) => match goal_of(self.version, &request.goal) {
+                Ok(goal) => self.path_to(alloc, asked.class, request.x, request.z, &goal),
                 Err(refusal) => Ok(Noted {
                     answer: Answer::Refused(refusal),
                     note: Note::Nothing,
@@ -280,12 +272,11 @@ pub(crate) fn asked_at(
     Ok(Asked { class, cell })
 }
 
-/// The answer to a region query of a class by its name, at the point (`x`, `z`).
-pub(crate) fn region_asked(version: &Version, name: &ClassName, x: Fixed, z: Fixed) -> Answer
-    ensures { IsAnswerAt (class_named version.now.map name.now) (is_on_map version.now.map.size x z)
-        (λ class. IsRegionAt (passable_at version.now.map version.now.standing class) x z) result }
+/// The answer to a region query.
+pub(crate) fn region_asked(version: &Version, query: &RegionQuery) -> Answer
+    ensures { IsRegionAsked version.now.map version.now.standing query.now result }
 {
-    match asked_at(version, name, x, z) {
+    match asked_at(version, &query.class, query.x, query.z) {
         Ok(asked) => Answer::Region(region_at(version, asked.class, asked.cell)),
         Err(refusal) => Answer::Refused(refusal),
     }

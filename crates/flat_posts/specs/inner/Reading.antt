@@ -10,6 +10,7 @@ use Rattle.obstruction_shapes.specs.declared.shapes.Shape.{Shape}
 use Rattle.obstruction_shapes.specs.declared.shapes.Shape.TheVariants.{Unit as UnitShape, Square as SquareShape}
 use Rattle.posts.specs.declared.edits.Edit.{Edit}
 use Rattle.posts.specs.declared.edits.Edit.TheVariants.{Add, Remove, Move}
+use Rattle.posts.specs.declared.posts.PathRequest.{PathRequest}
 use Rattle.posts.specs.declared.posts.Post.{Post}
 use Rattle.posts.specs.declared.posts.Post.TheVariants.{Edit as Editing, Ask as Asking}
 use Rattle.posts.specs.declared.posts.Request.{Request}
@@ -41,10 +42,14 @@ goal_in flat =
     if flat.goal == NOT_SQUARE then Some (Plain (NotSquare (rectangle_at flat flat.goal_x flat.goal_z))) else (
     if flat.goal == OBSTRUCTION then Some (AboutObstruction flat.id flat.radius) else None)))))
 
+-- the request for a path of the class of this name to this goal, from the point
+abbrev pub path_to : FlatPost → List ℕ → GoalSpec → PathRequest
+path_to flat name goal = record { class = name; x = flat.x; z = flat.z; goal = goal }
+
 abbrev pub request_in : FlatPost → List ℕ → Option Request
 request_in flat name =
-    if flat.kind == PATH then option_map (λ goal. Path name flat.x flat.z goal) (goal_in flat) else (
-    if flat.kind == REGION then Some (Region name flat.x flat.z) else None)
+    if flat.kind == PATH then option_map (λ goal. Path (path_to flat name goal)) (goal_in flat) else (
+    if flat.kind == REGION then Some (Region (record { class = name; x = flat.x; z = flat.z })) else None)
 
 -- the edit, or the request for the class of the number
 abbrev pub post_from : Option Edit → Option Request → Option Post

@@ -19,8 +19,8 @@ use Rattle.pathserve_c.specs.declared.fields.FieldAnswer.{FieldAnswer}
 
 -- whether a request asks for a path
 abbrev pub asks_path : Request → Bool
-asks_path (AsksPath name x z spec) = true
-asks_path (AsksRegion name x z) = false
+asks_path (AsksPath request) = true
+asks_path (AsksRegion query) = false
 
 -- the map has a class of the name and the goal, and the start is passable for the class
 pub record IsFieldAsked (version : MapState) (name : List ℕ) (spec : GoalSpec) (start : Cell) : Type 0 where
@@ -47,8 +47,8 @@ pub record IsFieldNamed (version : MapState) (name : List ℕ) (spec : GoalSpec)
 
 -- the field of a request for a path
 abbrev pub IsFieldFor : MapState → Request → Cell → FieldCells → Type 0
-IsFieldFor version (AsksPath name x z spec) start field = IsFieldNamed version name spec start field
-IsFieldFor version (AsksRegion name x z) start field = ⊥
+IsFieldFor version (AsksPath request) start field = IsFieldNamed version request.class request.goal start field
+IsFieldFor version (AsksRegion query) start field = ⊥
 
 -- an answer that is a path has its field, and no other answer has one
 abbrev pub HasField : MapState → Request → Answer → Option FieldCells → Type 0

@@ -80,15 +80,15 @@ fn push_request(
 {
     let caller = LineValue::Whole(caller);
     match request {
-        Request::Path { class, x, z, goal } => {
-            let class = LineValue::Name(class);
-            let from = LineValue::Point(*x, *z);
-            let goal = LineValue::Goal(*goal);
+        Request::Path(request) => {
+            let class = LineValue::Name(&request.class);
+            let from = LineValue::Point(request.x, request.z);
+            let goal = LineValue::Goal(request.goal);
             push_form(text, version, Form::Path, &[caller, class, from, goal])
         }
-        Request::Region { class, x, z } => {
-            let class = LineValue::Name(class);
-            let at = LineValue::Point(*x, *z);
+        Request::Region(query) => {
+            let class = LineValue::Name(&query.class);
+            let at = LineValue::Point(query.x, query.z);
             push_form(text, version, Form::Region, &[caller, class, at])
         }
     }

@@ -11,7 +11,7 @@ use crate::goals::goal_under;
 use crate::table::Form;
 use crate::versions::FIRST_WITH_MASKS;
 use obstruction_shapes::{Obstruction, Shape};
-use posts::{Edit, Post, Request};
+use posts::{Edit, PathRequest, Post, RegionQuery, Request};
 use serde_json::Value;
 
 /// The post of a line that has the keys of this form.
@@ -128,7 +128,7 @@ fn path_of(version: u8, value: &Value) -> Option<Request>
         return None;
     };
     match name_under(value, Key::Path) {
-        Some(class) => Some(Request::Path { class, x, z, goal }),
+        Some(class) => Some(Request::Path(PathRequest { class, x, z, goal })),
         None => None,
     }
 }
@@ -139,7 +139,7 @@ fn region_of(value: &Value) -> Option<Request>
     ensures { result ≡ line.region_of (view value.now) }
 {
     match (name_under(value, Key::Region), point_under(value, Key::At)) {
-        (Some(class), Some((x, z))) => Some(Request::Region { class, x, z }),
+        (Some(class), Some((x, z))) => Some(Request::Region(RegionQuery { class, x, z })),
         _ => None,
     }
 }

@@ -2,4 +2,4 @@ use Rattle.posts.specs.declared.posts.Request.TheVariants.{Path as AsksPath}
 use Rattle.pathserve_c.proofs.fields.path_asked.Goals as goal
 
 pub returns-in-None-clause-none : goal.returns-in-None-clause-none
-returns-in-None-clause-none c = λ none caller name x z spec is. c.in-None.ensures.none none caller (AsksPath name x z spec) is
+returns-in-None-clause-none c = λ none caller request is. c.in-None.ensures.none none caller (AsksPath request) is

@@ -9,9 +9,10 @@ use Rattle.turn_core.proofs.solving.region_asked.Goals as goal
 
 pub returns-in-Ok : goal.returns-in-Ok
 returns-in-Ok c =
+    let query = c.args.query.now in
     let map = c.args.version.now.map in
-    let Answers : ℕ → Answer → Type 0 = λ class. IsRegionAt (passable_at map c.args.version.now.standing class) c.args.x c.args.z in
+    let Answers : ℕ → Answer → Type 0 = λ class. IsRegionAt (passable_at map c.args.version.now.standing class) query.x query.z in
     let asked = c.in-Ok.ensures.asked in
-    answered_at (class_named map c.args.name.now) (is_on_map map.size c.args.x c.args.z) Answers (Region c.region_at.result) c.in-Ok.asked.class asked.named
-    (asked_on_map map c.args.name.now c.args.x c.args.z c.in-Ok.asked.class c.in-Ok.asked.cell asked)
-    (c.region_at.result, (refl, c.region_at.ensures c.args.x c.args.z asked.holder))
+    answered_at (class_named map query.class) (is_on_map map.size query.x query.z) Answers (Region c.region_at.result) c.in-Ok.asked.class asked.named
+    (asked_on_map map query.class query.x query.z c.in-Ok.asked.class c.in-Ok.asked.cell asked)
+    (c.region_at.result, (refl, c.region_at.ensures query.x query.z asked.holder))
