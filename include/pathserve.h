@@ -9,8 +9,8 @@
  *     by structs    pathserve_open_map   check, post_all, end_turn   replies, waypoints, journal
  *                   pathserve_open_grid  limit_posts
  *     to go on      pathserve_open_script, script_cause, snapshot, forget   turn_digest, view_digest
- *     to look       pathserve_view_of    passable, region, area, row, nearest, standing_at, standing, find, field,
- *                                        clear, smooth
+ *     to look       pathserve_view_of    passable, region, area, row, nearest, reachable, standing_at, standing, find,
+ *                                        field, clear, smooth
  *     to find much  pathserve_finder_open   find_with, find_within, find_all
  *
  * WHAT YOU PROMISE, for each call. The library's functions are proved to be safe and to return the statuses and results
@@ -508,6 +508,12 @@ pathserve_status pathserve_standing(pathserve_view *view, uint64_t first, pathse
  * NO_MEMORY, CLOSED, and OTHER for a match. Only with DONE is anything written. */
 pathserve_status pathserve_find(pathserve_view *view, const pathserve_post *post, pathserve_reply *reply,
                                 pathserve_cell *waypoints, size_t count);
+
+/* Says without a search how a path of this post would end: the `kind` of the reply that pathserve_find writes, one of
+ * PATHSERVE_REFUSED, _NOWHERE, _AT_GOAL and _NEAR_GOAL. With PATHSERVE_NEAR_GOAL `cell` gets the end of that path: of the cells
+ * that can be reached from its start, the one closest to the goal. 0 for a post of another kind or one that pathserve_find
+ * would not take, and for a view that is closed. Only with PATHSERVE_NEAR_GOAL is `cell` written. */
+uint32_t pathserve_reachable(pathserve_view *view, const pathserve_post *post, pathserve_cell *cell);
 
 /* ---- finders: pathserve_find allocates the memory of its search in each call; a finder keeps it from call to call.
  * pathserve_field and pathserve_smooth, below, allocate in each call ---- */

@@ -330,6 +330,10 @@ class View {
         return cell;
     }
 
+    // How a path would end, without a search: the kind of the reply that `find` gives, PATHSERVE_AT_GOAL among others, and with
+    // PATHSERVE_NEAR_GOAL the cell in which it ends. 0 if the post asks for no path.
+    std::uint32_t reachable(const Post &post, Cell &end) { return pathserve_reachable(get(), &post, &end); }
+
     // An obstruction, and all of them, as the posts that add them.
     std::optional<Post> standing_at(std::uint32_t id) {
         Post post = {};

@@ -269,6 +269,7 @@ namespace Pathserve
         [DllImport(Library)] internal static extern UIntPtr pathserve_row(
             ref Handle view, uint classNumber, uint j, [Out] ulong[] words, UIntPtr count);
         [DllImport(Library)] internal static extern uint pathserve_nearest(ref Handle view, uint classNumber, int x, int z, ref Cell cell);
+        [DllImport(Library)] internal static extern uint pathserve_reachable(ref Handle view, ref Post post, ref Cell cell);
         [DllImport(Library)] internal static extern uint pathserve_standing_at(ref Handle view, uint id, ref Post post);
         [DllImport(Library)] internal static extern Status pathserve_standing(
             ref Handle view, ulong first, [Out] Post[] posts, UIntPtr count, ref ulong whole);
@@ -571,6 +572,16 @@ namespace Pathserve
         {
             Cell cell = new Cell();
             return Native.pathserve_nearest(ref handle, (uint)classNumber, x, z, ref cell) != 0 ? cell : (Cell?)null;
+        }
+
+        /// <summary>How a path would end, without a search: the kind of the reply that `Find` gives, and the cell where it ends near its
+        /// goal.</summary>
+        public ReplyKind Reachable(Post post, out Cell end)
+        {
+            end = new Cell();
+            uint kind = Native.pathserve_reachable(ref handle, ref post, ref end);
+            if (kind == 0) throw new PathserveException(Status.BadValue);
+            return (ReplyKind)kind;
         }
 
         /// <summary>All that stands, as the posts by which caller 0 adds it, by rising number.</summary>

@@ -4,6 +4,7 @@ and its folder by itself: what its pages name is there, and what they show runs.
 The release is the folder that PATHSERVE_RELEASE names, or out/release, which `./release` makes, or where there is none
 out/release-unproved, which `./release --unproved` makes in minutes.
 """
+import collections
 import concurrent.futures
 import ctypes
 import dataclasses
@@ -693,8 +694,8 @@ class Python(unittest.TestCase):
                 opened += 1
         self.assertGreater(opened, 20)
 
-    def test_a_view_says_what_stands_and_where_paths_start(self):
-        starts = 0
+    def test_a_view_says_what_stands_and_where_paths_start_and_end(self):
+        starts, ends = 0, collections.Counter()
         for posted, _ in self.said(100):
             with posted.open() as match:
                 standing = {}
@@ -710,6 +711,9 @@ class Python(unittest.TestCase):
                             add = standing.get(number)
                             self.assertEqual(view.standing_at(number), add and add._replace(caller=0))
                         for post, reply in asked:
+                            end = reply.path.end if reply.kind == self.api.Kind.NEAR_GOAL else None
+                            self.assertEqual(view.reachable(post), (reply.kind, end))
+                            ends[reply.kind] += 1
                             start = view.nearest(post.class_number, post.x, post.z)
                             if reply.path:
                                 self.assertEqual(start, reply.path.start)
@@ -717,6 +721,37 @@ class Python(unittest.TestCase):
                             elif reply.why in (None, self.api.Refusal.START_OUTSIDE):
                                 self.assertIsNone(start)
         self.assertGreater(starts, 100)
+        kinds = self.api.Kind
+        self.assertGreater(min(ends[it] for it in (kinds.REFUSED, kinds.AT_GOAL, kinds.NEAR_GOAL)), 10)
+
+    def test_what_can_be_reached_beside_a_wall(self):
+        api, native = self.api, self.api.finders.native
+        library, classes, fixed = api.load(), [api.PassabilityClass("walker", 0), api.PassabilityClass("ship", 0)], api.fixed
+        across = api.path(0, 0, fixed(1.5), fixed(2.5), api.Goal.point(fixed(8.5), fixed(3.5)))
+        goal = api.Goal.circle(fixed(8.5), fixed(3.5), fixed(6))
+        # column 6 is a wall for walkers, and all is land for ships
+        base = [api.Rect(6, 0, 6, 7, 1), api.Rect(0, 0, 11, 7, 2)]
+        with api.PostedMatch(12, 8, 2, classes, base) as match, match.view() as view:
+            self.assertEqual(view.reachable(across), (api.Kind.NEAR_GOAL, (5, 3)))
+            self.assertEqual(view.reachable(across._replace(x=fixed(7.5))), (api.Kind.AT_GOAL, None))
+            self.assertEqual(view.reachable(api.path(1, 0, fixed(1.5), fixed(2.5), goal)), (api.Kind.AT_GOAL, None))
+            self.assertEqual(view.reachable(across._replace(class_number=1)), (api.Kind.NOWHERE, None))
+            self.assertEqual(view.reachable(across._replace(x=fixed(12.5))), (api.Kind.REFUSED, None))
+            self.assertEqual(view.reachable(across._replace(goal_x=fixed(12.5))), (api.Kind.REFUSED, None))
+            for i, j, other, joined in ((0, 0, 5, True), (0, 0, 7, False), (7, 0, 11, True)):
+                self.assertEqual(view.area(0, i, j) == view.area(0, other, 7) != 0, joined)
+            bad = [api.remove(0, 1), api.region(0, 0, fixed(1.5), fixed(2.5)), across._replace(class_number=2)]
+            bad += [across._replace(caller=2), across._replace(mask=1), across._replace(goal=9), across._replace(kind=0)]
+            for post in bad:
+                with self.assertRaises(api.Failed) as raised:
+                    view.reachable(post)
+                self.assertEqual(raised.exception.status, api.Status.BAD_VALUE, post)
+            cell, refused = native.CellStruct(3, 4), across._replace(x=fixed(12.5))
+            for seen in (native.ViewHandle(), as_view_of(match, native)):
+                self.assertEqual(library.pathserve_reachable(seen, across.struct(), cell), 0)
+            for post in (*bad, refused, across._replace(x=fixed(7.5)), across._replace(class_number=1)):
+                library.pathserve_reachable(view._handle, post.struct(), cell)
+            self.assertEqual((cell.i, cell.j), (3, 4))
 
     def test_a_finder_answers_as_a_view_whatever_it_served_before(self):
         paths = 0

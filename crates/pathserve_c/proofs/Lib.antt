@@ -4,6 +4,7 @@ mod Feeding
 mod FieldLaws
 mod Gridded
 mod MaskRows
+mod PathEnds
 mod Places
 mod Sighted
 mod Starts

@@ -3,6 +3,7 @@ pub mod Calls
 pub mod Causes
 pub mod Checks
 pub mod Digests
+pub mod Endings
 pub mod Fields
 pub mod Finders
 pub mod Finds

@@ -113,7 +113,7 @@ fn write_field(field: &Option<Field>, size: Size, steps: &mut [u8], distances: &
 
 /// The request for a path that a post is on the map of a version, with its caller. None exactly where it is none.
 #[tactic(auto, using(crate::proofs::FieldLaws::region_asks_no_path))]
-fn path_asked(version: &Version, post: &FlatPost) -> Option<(u8, Request)>
+pub(crate) fn path_asked(version: &Version, post: &FlatPost) -> Option<(u8, Request)>
     ensures some { IfSome result (λ asked. IsPost version.now.map post.now asked.0 (Ask asked.1)) }
     ensures path { IfSome result (λ asked. IsTrue (asks_path asked.1)) }
     ensures none { IsNone result → (caller : ℕ) (request : PathRequest)

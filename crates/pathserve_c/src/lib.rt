@@ -11,6 +11,7 @@
 mod causes;
 mod checks;
 mod digests;
+mod endings;
 mod fields;
 mod finder_calls;
 mod finders;
@@ -39,6 +40,7 @@ mod words;
 pub use causes::{pathserve_cause, pathserve_script_cause};
 pub use checks::{NOT_ZERO, WRONG_CALLER, WRONG_CLASS, WRONG_GOAL, WRONG_KIND, pathserve_check};
 pub use digests::{pathserve_turn_digest, pathserve_view_digest};
+pub use endings::{PathEnd, pathserve_reachable};
 pub use fields::pathserve_field;
 pub use finder_calls::{
     pathserve_find_all, pathserve_find_with, pathserve_finder_close, pathserve_finder_open,

@@ -119,7 +119,7 @@ pub(crate) fn class_of(version: &Version, class_number: u32) -> Option<Class>
 
 /// The cell in which a path of a class of the map from the point (x, z) starts.
 #[tactic(auto, using(crate::proofs::Starts::start_there))]
-fn start_of(version: &Version, class: Class, x: Fixed, z: Fixed) -> Option<Cell>
+pub(crate) fn start_of(version: &Version, class: Class, x: Fixed, z: Fixed) -> Option<Cell>
     requires class { class < length version.now.map.classes }
     ensures some { IfSome result (StartsAt version.now class x z) }
     ensures none { IfNone result ((cell : Cell) → StartsAt version.now class x z cell → ⊥) }
@@ -132,7 +132,7 @@ fn start_of(version: &Version, class: Class, x: Fixed, z: Fixed) -> Option<Cell>
 }
 
 /// Whether a point lies on the map.
-fn is_on_map(version: &Version, x: Fixed, z: Fixed) -> bool
+pub(crate) fn is_on_map(version: &Version, x: Fixed, z: Fixed) -> bool
     ensures { IsTrue result ↔ (IsOnAxis version.now.map.size.w x × IsOnAxis version.now.map.size.h z) }
 {
     cell_of_point(x, z, version.map().size()).is_some()

@@ -182,6 +182,9 @@ export class View extends Owner {
   /** The cell in which a path of a class from the point (x, z) starts: the one that holds it, or else the passable one nearest to
    * it. Null where there is none, or the point is not on the map. */
   nearest(classNumber: number, x: number, z: number): Cell | null;
+  /** How a path would end, without a search: the kind of the reply that `find` gives, and the cell where it ends near its goal.
+   * A post that asks for no path throws BAD_VALUE. */
+  reachable(post: Post): { kind: "refused" | "nowhere" | "at-goal" | "near-goal"; end?: Cell };
   /** The post by which caller 0 adds what stands under a number, or null. */
   standingAt(id: number): Post | null;
   /** All that stands, as the posts by which caller 0 adds it, by rising number. */

@@ -590,6 +590,16 @@ export class View extends Owner {
     return this.call("nearest", classNumber, ...point, BigInt(at)) ? this.library.cells(at, 1)[0] : null;
   }
 
+  /** How a path would end, without a search: the kind of the reply that `find` gives, and the cell where it ends near its goal.
+   * A post that asks for no path throws BAD_VALUE. */
+  reachable(post) {
+    const [asked, at] = this.library.room(POST.size, CELL);
+    this.library.write(asked, POST, post);
+    const kind = KINDS[this.call("reachable", BigInt(asked), BigInt(at))];
+    must(kind ? Status.DONE : Status.BAD_VALUE);
+    return kind === "near-goal" ? { kind, end: this.library.cells(at, 1)[0] } : { kind };
+  }
+
   /** The post by which caller 0 adds what stands under a number, or null. */
   standingAt(id) {
     const [at] = this.library.room(POST.size);

@@ -8,7 +8,7 @@ from typing import Sequence
 from . import native
 from .native import filled, must, written
 from .owners import Owner
-from .posts import Cell, Post, Reply, cell_of, post_of, reply_of
+from .posts import Cell, Kind, Post, Reply, cell_of, post_of, reply_of
 
 # the way of each step of a field, by its number: none, N, E, S, W, NE, SE, SW, NW, and where a unit stays
 WAYS = ((0, 0), (0, 1), (1, 0), (0, -1), (-1, 0), (1, 1), (1, -1), (-1, -1), (-1, 1), (0, 0))
@@ -81,6 +81,14 @@ class View(Owner):
         cell = native.CellStruct()
         is_there = self._call("nearest", word(class_number), coordinate(x), coordinate(z), cell)
         return cell_of(cell) if is_there else None
+
+    def reachable(self, post: Post) -> tuple[Kind, Cell | None]:
+        """How a path would end, without a search: the kind of the reply that `find` gives, and the cell where it ends near its
+        goal. A post that asks for no path raises BAD_VALUE."""
+        cell = native.CellStruct()
+        kind = self._call("reachable", post.struct(), cell)
+        must(native.Status.DONE if kind else native.Status.BAD_VALUE)
+        return Kind(kind), cell_of(cell) if kind == Kind.NEAR_GOAL else None
 
     def standing_at(self, number: int) -> Post | None:
         """The post by which caller 0 adds what stands under a number."""

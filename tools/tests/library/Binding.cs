@@ -131,6 +131,9 @@ public static class Binding
         Finder finder = new Finder();
         Must(view.StandingAt(7).Equals(unit) && view.StandingAt(8).Equals(square) && view.StandingAt(9) == null, "another obstruction");
         Must(view.Nearest(0, Navcell / 2, 3 * Navcell / 2).Value.Equals(new Cell(0, 1)) && view.Nearest(0, -1, 0) == null, "another cell");
+        Cell end;
+        Must(view.Reachable(Across(8), out end) == ReplyKind.AtGoal && view.Reachable(Across(9), out end) == ReplyKind.Refused, "another end");
+        Refused(Status.BadValue, () => view.Reachable(unit, out end), "an end of no path");
         byte[] steps = { 77 };
         Must(view.Field(Across(9), steps).Why == Refusal.GoalOutside && steps[0] == 77, "a field to nowhere");
         match.Dispose();

@@ -120,6 +120,8 @@ void edits() {
     holds(standing.size() == 2 && is_same(standing[0], unit) && is_same(standing[1], wall), "another list of obstructions");
     holds(is_same(*view.standing_at(8), wall) && !view.standing_at(9), "another obstruction");
     holds(view.nearest(0, {navcell / 2, 3 * navcell / 2})->j == 1 && !view.nearest(0, {-1, 0}), "another cell");
+    Cell end = {9, 9};
+    holds(view.reachable(across(8), end) == PATHSERVE_AT_GOAL && view.reachable(unit, end) == 0 && end.i == 9, "another end of a path");
     match.post({move_to(0, 7, {5 * navcell, 4 * navcell}), remove(0, 8)});
     match.end_turn(replies);
     holds(match.view().standing().size() == 1 && view.standing().size() == 2, "a view that does not stay");

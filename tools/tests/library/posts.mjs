@@ -91,6 +91,8 @@ function looked(match, asked, replies, standing, size) {
     if (post.kind === 6) return;
     if (reply.path) assert.deepEqual(view.nearest(post.classNumber, post.x, post.z), reply.path.start);
     if (reply.kind === "nowhere" || reply.why === "start-outside") assert.equal(view.nearest(post.classNumber, post.x, post.z), null);
+    const near = reply.kind === "near-goal" ? { end: reply.path.end } : {};
+    assert.deepEqual(view.reachable(post), { kind: reply.kind, ...near });
     led(view, post, reply, size);
   });
   const all = finder.findAll(view, requests.map(([post]) => post));

@@ -41,7 +41,8 @@ function look(match, told) {
     const other = again(() => view.again());
     try {
       told.push(JSON.stringify(again(() => other.find(ask))), [...view.row(1, 3, 12)].join(""));
-      told.push(...[again(() => view.nearest(1, 688128, 229376)), again(() => view.standingAt(1))].map((it) => JSON.stringify(it)));
+      const looks = [() => view.nearest(1, 688128, 229376), () => view.reachable(ask), () => view.standingAt(1)];
+      told.push(...looks.map((it) => JSON.stringify(again(it))));
       lead(other, told);
     } finally {
       other.close();

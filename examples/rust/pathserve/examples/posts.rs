@@ -1,5 +1,5 @@
 //! Plays a turn by posts, and looks at what stands from another thread.
-use pathserve::{fixed, Cell, Class, Error, Goal, Outcome, Post, PostedMatch, Report, TextMatch};
+use pathserve::{fixed, Cell, Class, Error, Goal, Outcome, PathEnd, Post, PostedMatch, Report, TextMatch};
 use std::thread;
 
 fn main() -> Result<(), Error> {
@@ -17,6 +17,7 @@ fn main() -> Result<(), Error> {
     assert_eq!((view.standing_at(1), view.standing_at(2)), (Some(add), None));
     assert_eq!(view.nearest(0, fixed(1.5), fixed(1.5)), Some(Cell { i: 1, j: 1 }));
     assert_eq!(view.nearest(1, fixed(1.5), fixed(1.5)), None);
+    assert_eq!((view.reachable(&ask), view.reachable(&add)), (Ok(PathEnd::AtGoal), Err(Error::BadValue)));
     assert_eq!(grid()?, [false, true, true, false]);
     assert_eq!(why_a_blank_line_is_bad()?, "the line must be one JSON value, and is blank");
     println!("by pathserve {}", pathserve::version());

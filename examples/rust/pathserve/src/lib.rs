@@ -19,7 +19,7 @@ pub use finders::Finder;
 pub use matches::{cause_of, PostFault, PostedMatch, Report, TextMatch, Turn};
 pub use pathserve_sys::{Cell, Rect};
 pub use posts::{fixed, Class, Goal, Outcome, Path, Post, Refusal, Reply, NAVCELL};
-pub use views::View;
+pub use views::{PathEnd, View};
 
 use pathserve_sys as sys;
 

@@ -4,6 +4,17 @@ use crate::{must, written, Error};
 use pathserve_sys as sys;
 use std::ptr;
 
+/// How a path would end.
+#[derive(Clone, Copy, Debug, PartialEq, Eq)]
+pub enum PathEnd {
+    Refused,
+    /// No cell of the map is passable for the class.
+    Nowhere,
+    AtGoal,
+    /// In this cell, the closest to the goal that can be reached.
+    Near(sys::Cell),
+}
+
 /// What stood when it was made. It may move to another thread; [`View::again`] makes one for one more.
 pub struct View(sys::View);
 
@@ -55,6 +66,19 @@ impl View {
         // SAFETY: an exclusive handle.
         let is_there = unsafe { sys::pathserve_nearest(&mut self.0, class_number, x, z, &mut cell) };
         (is_there != 0).then_some(cell)
+    }
+
+    /// How a path would end, without a search: where its goal can't be reached, in this cell, the closest to it that can.
+    pub fn reachable(&mut self, post: &Post) -> Result<PathEnd, Error> {
+        let mut cell = sys::Cell::default();
+        // SAFETY: an exclusive handle, a post and a cell that may be written.
+        match unsafe { sys::pathserve_reachable(&mut self.0, &post.raw(), &mut cell) } as u8 {
+            sys::REFUSED => Ok(PathEnd::Refused),
+            sys::NOWHERE => Ok(PathEnd::Nowhere),
+            sys::AT_GOAL => Ok(PathEnd::AtGoal),
+            sys::NEAR_GOAL => Ok(PathEnd::Near(cell)),
+            _ => Err(Error::BadValue),
+        }
     }
 
     /// The post by which caller 0 adds what stands under a number.
