@@ -635,7 +635,8 @@ pathserve_status pathserve_forget(pathserve_match *match);
 
 /* The digest of the turn that ended last, in a match by structs: the number by which docs/FORMAT.md, "The digest of a turn",
  * tells texts of turns apart, made of the text that `pathserve replay` writes for the turn. 0 if no turn has ended. Players of
- * a match compare it to find the first turn in which they went out of sync. DONE. NO_MEMORY, CLOSED, OTHER. Only with DONE is
+ * a match compare it to find the first turn whose answers differ, and pathserve_view_digest to find the first after which what
+ * stands does: an edit that differs may be answered alike. DONE. NO_MEMORY, CLOSED, OTHER. Only with DONE is
  * `digest` written. */
 pathserve_status pathserve_turn_digest(pathserve_match *match, uint64_t *digest);
 

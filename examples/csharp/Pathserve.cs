@@ -407,7 +407,17 @@ namespace Pathserve
         public void LimitPosts(ulong most) { Native.Must(Native.pathserve_limit_posts(ref handle, (UIntPtr)most)); }
 
         /// <summary>Posts, after those that the turn has: all or none.</summary>
-        public void Post(params Post[] posts) { Native.Must(Native.pathserve_post_all(ref handle, posts, Native.Count(posts))); }
+        public void Post(params Post[] posts)
+        {
+            Status status = Native.pathserve_post_all(ref handle, posts, Native.Count(posts));
+            if (status == Status.BadValue)
+            {
+                int which;
+                PostFault why = Check(posts, out which);
+                throw new PathserveException(status, 0, "post " + which + ": " + Texts.Of(why));
+            }
+            Native.Must(status);
+        }
 
         /// <summary>What is wrong with the first of these posts that `Post` would refuse, and its place. None where it would refuse
         /// none.</summary>

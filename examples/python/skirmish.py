@@ -1,7 +1,7 @@
 #!/usr/bin/env python3
 """Plays examples/skirmish.script by posts, without a script, and looks at what stands.
 
-PATHSERVE_LIBRARY=libpathserve.so.0 examples/python/skirmish.py
+PATHSERVE_LIBRARY=lib/libpathserve.so.0 examples/python/skirmish.py
 """
 import sys
 

@@ -2,12 +2,13 @@
 from __future__ import annotations
 
 import ctypes
+import re
 from typing import Iterable, NamedTuple, Sequence
 
 from . import native
-from .native import BadLine, BadPost, BadScript, Fault, OutOfMemory, Status, filled, must, written
+from .native import BadLine, BadPost, BadScript, Failed, Fault, OutOfMemory, Status, filled, must, written
 from .owners import Owner
-from .posts import PassabilityClass, Post, Rect, Reply, cell_of, reply_of
+from .posts import NAVCELL, PassabilityClass, Post, Rect, Reply, cell_of, reply_of
 from .views import View
 
 REPORTS = {"replay": 0, "profile": 1, "flow": 2, "smooth": 3}
@@ -92,6 +93,29 @@ def cause_of(script: bytes) -> tuple[int, str]:
     return bad_line.value, cause
 
 
+def _wrong_with(width: int, height: int, callers: int, classes: Sequence[PassabilityClass], base: Sequence[Rect],
+                masks: Sequence[int] | None) -> str:
+    """What pathserve.h asks of a map and the first of these values that breaks it. It says why opening ended with BAD_VALUE."""
+    for name, value, most in ("width", width, 2048), ("height", height, 2048), ("callers", callers, 64):
+        if not 1 <= value <= most:
+            return f"{name} must be 1 to {most}, not {value}"
+    if not 1 <= len(classes) <= 16:
+        return f"there must be 1 to 16 classes, not {len(classes)}"
+    for place, it in enumerate(classes):
+        if not re.fullmatch("[A-Za-z0-9_-]{1,64}", it.name):
+            return f"the name of class {place} must have 1 to 64 ASCII letters, digits, - or _; {it.name!r} has {len(it.name)} characters"
+        if it.name in [other.name for other in classes[:place]]:
+            return f"class {place} has the name {it.name!r} of an earlier one"
+        if not 0 <= it.clearance <= 64 * NAVCELL:
+            return f"the clearance of class {place}, {it.name}, must be 0 to fixed(64), which is {64 * NAVCELL}, not {it.clearance}"
+    for place, it in enumerate(base):
+        if not (it.i0 <= it.i1 < width and it.j0 <= it.j1 < height):
+            return f"rectangle {place} must have i0 <= i1 < {width} and j0 <= j1 < {height}: {it}"
+    if masks is not None and len(masks) != width * height:
+        return f"masks must have {width} * {height} = {width * height} items, not {len(masks)}"
+    return ""
+
+
 class PostedMatch(_Match):
     """A match on a map, whose turns are posts."""
 
@@ -107,20 +131,29 @@ class PostedMatch(_Match):
         """What is impassable from the start stands in `base`, or else in `masks`: a mask for each cell, that of cell (i, j) at
         place j * width + i."""
         super().__init__()
+        if masks is not None and base:
+            raise ValueError("terrain comes as base or as masks, not as both")
         its_classes = (native.ClassStruct * len(classes))(*[it.struct() for it in classes])
         its_base = (native.RectStruct * len(base))(*[it.struct() for it in base])
         its_map = filled(native.MapStruct, width=width, height=height, callers=callers)
         if masks is None:
-            must(self._call("open_map", its_map, its_classes, len(classes), its_base, len(base)))
+            status = self._call("open_map", its_map, its_classes, len(classes), its_base, len(base))
         else:
-            must(self._call("open_grid", its_map, its_classes, len(classes), _masks_of(masks), len(masks)))
+            status = self._call("open_grid", its_map, its_classes, len(classes), _masks_of(masks), len(masks))
+        if status == Status.BAD_VALUE:
+            raise Failed(status, _wrong_with(width, height, callers, classes, base, masks))
+        must(status)
 
     def limit_posts(self, most: int) -> None:
         """Lets at most so many posts wait for the end of a turn. `post` raises PAST_LIMIT where there would be more."""
+        if not 0 <= most < 1 << 64:
+            raise ValueError(f"most has no room for {most}")
         must(self._call("limit_posts", most))
 
     def post(self, posts: Iterable[Post]) -> None:
         """Posts, behind those that the turn has: all or none. BadPost where one of them is no post of the map."""
+        if isinstance(posts, Post):
+            raise TypeError("post takes a list of posts: match.post([...])")
         structs = [it.struct() for it in posts]
         its = (native.PostStruct * len(structs))(*structs)
         with self._lock:

@@ -249,7 +249,10 @@ def found() -> str:
 def load(file: str | None = None) -> ctypes.CDLL:
     """The library of this file, or else the one that is found. It is loaded once, and refused where its version or one of its
     structs is another one than this package is made for."""
-    library = ctypes.CDLL(file or found())
+    try:
+        library = ctypes.CDLL(file or found())
+    except OSError as it:
+        raise OSError(f"{it}. Set the variable PATHSERVE_LIBRARY to the library of a release, as in lib/{SHARED}") from it
     for name, (result, arguments) in CALLS.items():
         call = getattr(library, "pathserve_" + name)
         call.restype, call.argtypes = result, arguments

@@ -12,8 +12,8 @@ NAVCELL = 65536
 
 
 def fixed(navcells: float) -> int:
-    """A length in navcells as a whole number, rounded down."""
-    return math.floor(navcells * NAVCELL)
+    """A length in navcells as a whole number, truncated towards zero as a decimal of a script is."""
+    return math.trunc(navcells * NAVCELL)
 
 
 class PostKind(enum.IntEnum):
@@ -116,6 +116,8 @@ def region(caller: int, class_number: int, x: int, z: int) -> Post:
 
 
 class Kind(enum.IntEnum):
+    __str__ = enum.Enum.__str__  # its name in each version of Python
+
     ADDED = 1
     REMOVED = 2
     MOVED = 3
@@ -128,6 +130,8 @@ class Kind(enum.IntEnum):
 
 
 class Refusal(enum.IntEnum):
+    __str__ = enum.Enum.__str__  # its name in each version of Python
+
     BAD_SHAPE = 1
     DUPLICATE_ID = 2
     STORE_FULL = 3

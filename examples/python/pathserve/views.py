@@ -2,7 +2,7 @@
 from __future__ import annotations
 
 import ctypes
-from dataclasses import dataclass
+from dataclasses import dataclass, field
 from typing import Sequence
 
 from . import native
@@ -33,17 +33,22 @@ class FlowField:
 
     reply: Reply
     width: int
-    steps: bytes
-    distances: Sequence[int]
+    steps: bytes = field(repr=False)
+    distances: Sequence[int] = field(repr=False)
+
+    def _place(self, cell: Cell) -> int:
+        if not (0 <= cell.i < self.width and 0 <= cell.j < len(self.steps) // self.width):
+            raise IndexError(f"{cell} is not on the map")
+        return cell.j * self.width + cell.i
 
     def next(self, cell: Cell) -> Cell | None:
         """Where a unit on this cell goes next: the cell itself where it has arrived, None where it can't."""
-        step = self.steps[cell.j * self.width + cell.i]
+        step = self.steps[self._place(cell)]
         return Cell(cell.i + WAYS[step][0], cell.j + WAYS[step][1]) if step != NO_STEP else None
 
     def distance(self, cell: Cell) -> int | None:
         """What the cheapest walk from this cell costs, or None where it has none."""
-        far = self.distances[cell.j * self.width + cell.i]
+        far = self.distances[self._place(cell)]
         return far if far != NO_DISTANCE else None
 
 
