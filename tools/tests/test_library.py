@@ -854,6 +854,10 @@ class Python(unittest.TestCase):
             self.assertEqual(list(field.steps), [lead.get(cell, 0) for cell in cells])
             self.assertEqual(list(field.distances), [far.get(cell, (1 << 64) - 1) for cell in cells])
             self.assertEqual(field.distance(reply.path.start), reply.path.cost)
+            with self.assertRaises(IndexError):
+                field.next(self.api.Cell(-1, 0))
+            with self.assertRaises(IndexError):
+                field.distance(self.api.Cell(0, size[1]))
             fields += 1
         self.assertGreater(fields, 100)
 
@@ -931,12 +935,16 @@ class Python(unittest.TestCase):
             (12, 8, 1, classes * 2, []), (12, 8, 1, [api.PassabilityClass("a b", 0)], []),
             (12, 8, 1, [api.PassabilityClass("a", -1)], []), (12, 8, 1, classes, [api.Rect(0, 0, 12, 0, 1)]),
         ]
-        for parts in no_maps:
+        wrong = ["width must", "width must", "callers must", "callers must", "1 to 16 classes", "the name 'walker' of", "name of class 0", "clearance of class 0", "rectangle 0"]
+        for parts, words in zip(no_maps, wrong, strict=True):
             with self.assertRaises(api.Failed) as raised:
                 api.PostedMatch(*parts)
             self.assertEqual(raised.exception.status, api.Status.BAD_VALUE, parts)
+            self.assertIn(words, str(raised.exception))
         with api.PostedMatch(12, 8, 1, classes) as match:
             good = api.region(0, 0, 0, 0)
+            with self.assertRaises(TypeError):
+                match.post(good)
             path = api.path(0, 0, 0, 0, api.Goal.point(0, 0))
             bad = {
                 "WRONG_KIND": good._replace(kind=7), "WRONG_CALLER": good._replace(caller=1),
@@ -1020,6 +1028,8 @@ class Python(unittest.TestCase):
             self.assertEqual(raised.exception.status, api.Status.BAD_VALUE)
         with self.assertRaises(ValueError):
             api.PostedMatch(1, 1, 1, classes, masks=[65536])
+        with self.assertRaises(ValueError):
+            api.PostedMatch(1, 1, 1, classes, [api.Rect(0, 0, 0, 0, 1)], masks=[1])
         with api.PostedMatch(3, 2, 1, classes, masks=[1, 0, 1, 2, 65535, 0]) as match, match.view() as view:
             self.assertEqual([view.passable(0, i, j) for j in range(2) for i in range(3)], [False, True, False, True, False, True])
 
@@ -1040,6 +1050,8 @@ class Python(unittest.TestCase):
                     match.post([ask._replace(kind=9)])
                 self.assertEqual(raised.exception.status, api.Status.PAST_LIMIT)
                 self.assertEqual(len(match.end_turn().replies), 3, turn)
+            with self.assertRaises(ValueError):
+                match.limit_posts(-1)
             match.limit_posts(1 << 40)
             match.post([ask] * 4)
             match.limit_posts(0)
