@@ -185,7 +185,8 @@ typedef struct pathserve_cell { uint16_t i, j; } pathserve_cell;
 typedef struct pathserve_map { uint32_t width, height, callers; } pathserve_map;
 
 /* A passability class: its name, 1 to 64 ASCII letters, digits, `-` or `_` followed by zeros, and the distance that its units
- * keep from obstructions, 0 to 64 navcells. So {"infantry", 8, 49152} has a name of 8 letters and a clearance of 0.75. */
+ * keep from obstructions, 0 to 64 navcells, and not from terrain, which blocks exactly its cells. So {"infantry", 8, 49152} has a
+ * name of 8 letters and a clearance of 0.75. */
 typedef struct pathserve_class { uint8_t name[64]; uint32_t name_length; pathserve_fixed clearance; } pathserve_class;
 
 /* A rectangle of navcells, both corners included, that is never passable for the classes of the mask: bit k stands for class
@@ -221,7 +222,7 @@ enum { /* pathserve_post.goal of a path; 0 of other posts */
     PATHSERVE_NOT_CIRCLE = 3, /* the cells outside it. goal_x, goal_z, radius */
     PATHSERVE_SQUARE = 4,     /* a rectangle along a unit vector. goal_x, goal_z, ux, uz, hw, hh */
     PATHSERVE_NOT_SQUARE = 5, /* the cells outside it. goal_x, goal_z, ux, uz, hw, hh */
-    PATHSERVE_OBSTRUCTION = 6 /* the cells around an obstruction. id, radius (how far around it) */
+    PATHSERVE_OBSTRUCTION = 6 /* the cells around an obstruction. id, radius (how far: the class's clearance and half a navcell) */
 };
 
 /* A post. Each kind uses `kind`, `caller` and the fields named there; every other field is 0. Limits are in navcells: past
@@ -415,7 +416,7 @@ enum { /* pathserve_reply.kind */
     PATHSERVE_TOO_FAR = 9    /* a path costs more than it may: of a find within a greatest cost, and never of a turn */
 };
 enum { /* pathserve_reply.why of a refusal; 0 in other replies */
-    PATHSERVE_BAD_SHAPE = 1,     /* a goal is past its limits, or an obstruction, or off the map */
+    PATHSERVE_BAD_SHAPE = 1,     /* a shape or a goal is past its limits, or the middle of an obstruction is off the map */
     PATHSERVE_DUPLICATE_ID = 2,  /* there is an obstruction with this number already */
     PATHSERVE_STORE_FULL = 3,    /* there are 65,536 obstructions */
     PATHSERVE_UNKNOWN_ID = 4,    /* there is no obstruction with this number */

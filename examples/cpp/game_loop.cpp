@@ -48,15 +48,19 @@ struct Soldier {
 struct Scout {
     Point at;
     std::vector<Cell> ahead; // the waypoints that it has not come to
+    Cell left = pathserve::cell_of(at); // the one that it left last
 
     void tick() {
         if (ahead.empty()) return;
         at = toward(at, middle_of(ahead.front()));
-        if (at == middle_of(ahead.front())) ahead.erase(ahead.begin());
+        if (!(at == middle_of(ahead.front()))) return;
+        left = ahead.front();
+        ahead.erase(ahead.begin());
     }
 
+    // From its own cell a line may be blocked though its way is clear.
     bool is_clear(pathserve::View &view) const {
-        Cell from = pathserve::cell_of(at);
+        Cell from = left;
         for (Cell to : ahead) {
             if (!view.clear(infantry, from, to)) return false;
             from = to;
@@ -69,7 +73,9 @@ struct Scout {
         pathserve::Found found = finder.find(view, goal.path(0, infantry, at));
         view.smooth(infantry, found.reply.start, found.waypoints);
         ahead = std::move(found.waypoints);
-        if (pathserve::is_path(found.reply)) ahead.insert(ahead.begin(), found.reply.start);
+        if (!pathserve::is_path(found.reply)) return;
+        left = found.reply.start;
+        ahead.insert(ahead.begin(), left);
     }
 };
 

@@ -38,7 +38,8 @@ constexpr Cell cell_of(Point at) { return {static_cast<std::uint16_t>(at.x / nav
 
 constexpr Point middle_of(Cell of) { return {of.i * navcell + navcell / 2, of.j * navcell + navcell / 2}; }
 
-// A rectangle along a unit vector: half its length along the vector, half its width across it.
+// A rectangle along a unit vector, 65,536 times the cosine and the sine of its angle: half its length along the vector, half its
+// width across it. Floats may differ between machines: send the vector with the order, or compute it in whole numbers.
 struct Rectangle {
     Point middle, along;
     Fixed half_length, half_width;
@@ -255,6 +256,16 @@ struct Fault {
     std::uint32_t why;
 };
 
+// Posts of which one is none of the match.
+class BadPost : public Failed {
+  public:
+    explicit BadPost(Fault fault) : Failed(PATHSERVE_BAD_VALUE), its_fault(fault) {}
+    const Fault &fault() const noexcept { return its_fault; }
+
+  private:
+    Fault its_fault;
+};
+
 // Replies, and the waypoints of all their paths. Keep one and have it written again: then its memory is used again.
 struct Replies {
     std::vector<Reply> replies;
@@ -277,12 +288,18 @@ struct Found {
 // A flow field of a map: of each cell the step to take there. It needs no view; any number of threads may read it.
 class Field {
   public:
-    Field(std::uint32_t width, std::uint32_t height) : columns(width), steps(std::size_t{width} * height, PATHSERVE_NO_STEP) {}
+    // With `has_distances` it has the distance of each cell too, in 8 bytes more.
+    Field(std::uint32_t width, std::uint32_t height, bool has_distances = false)
+        : columns(width), steps(std::size_t{width} * height, PATHSERVE_NO_STEP),
+          distances(has_distances ? steps.size() : 0, PATHSERVE_NO_DISTANCE) {}
 
     // What the path that asks for this field is answered, without its waypoints. If it is no path no cell has a step.
     const Reply &reply() const { return its_reply; }
 
     std::uint8_t step(Cell at) const { return steps[std::size_t{at.j} * columns + at.i]; }
+
+    // What the cheapest walk from this cell costs, in a field that has distances. PATHSERVE_NO_DISTANCE where there is none.
+    std::uint64_t distance(Cell at) const { return distances[std::size_t{at.j} * columns + at.i]; }
 
     // The cell that a unit goes to from this one. None on the goal, and where no step leads there.
     std::optional<Cell> next(Cell from) const {
@@ -296,6 +313,7 @@ class Field {
     friend class View;
     std::uint32_t columns;
     std::vector<std::uint8_t> steps;
+    std::vector<std::uint64_t> distances;
     Reply its_reply = {};
 };
 
@@ -370,9 +388,11 @@ class View {
 
     // Makes the field to the goal of a path anew, and says whether there is one. The field is of this map's size.
     bool make(Field &field, const Post &post) {
-        must(pathserve_field(get(), &post, &field.its_reply, field.steps.data(), field.steps.size(), nullptr, 0));
+        must(pathserve_field(get(), &post, &field.its_reply, field.steps.data(), field.steps.size(), field.distances.data(),
+                             field.distances.size()));
         if (is_path(field.its_reply)) return true;
         field.steps.assign(field.steps.size(), PATHSERVE_NO_STEP);
+        field.distances.assign(field.distances.size(), PATHSERVE_NO_DISTANCE);
         return false;
     }
 
@@ -506,9 +526,14 @@ class Match {
         return made;
     }
 
-    // Adds posts to the turn: all or none.
-    void post(const Post &post) { must(pathserve_post_all(get(), &post, 1)); }
-    void post(const std::vector<Post> &posts) { must(pathserve_post_all(get(), posts.data(), posts.size())); }
+    // Adds posts to the turn: all or none. BadPost says which of them is none of the match, and why.
+    void post(const Post &post) { this->post(std::vector<Post>{post}); }
+    void post(const std::vector<Post> &posts) {
+        pathserve_status status = pathserve_post_all(get(), posts.data(), posts.size());
+        if (status == PATHSERVE_BAD_VALUE)
+            if (auto fault = check(posts)) throw BadPost(*fault);
+        must(status);
+    }
 
     // The first of these posts that `post` would refuse.
     std::optional<Fault> check(const std::vector<Post> &posts) {
