@@ -14,7 +14,7 @@ import specs
 PAGE = "docs/DEFINITIONS.md"
 HEAD = """# Definitions
 
-For an auditor: the definitions that the contracts of public functions name, crate by crate from the bottom up, each by the comment above it in `specs/`. What such a definition rests on stands in the same file or is imported there. Made by `tools/definitions.py`; [PROVED.md](PROVED.md#reading-order) has them in the order in which an auditor reads them.
+For an auditor: the definitions that the contracts of public functions name, crate by crate from the bottom up, each by the comment above it in `specs/`. What such a definition rests on stands in the same file or is imported there. Made by `tools/definitions.py`; [PROVED.md](PROVED.md#reading-order) has them, and others on which they rest, in the order in which an auditor reads them.
 
 Lengths and coordinates are raw numbers, 65536 to a navcell, unless a definition says otherwise. A straight step costs 65536 and a diagonal one 92682.
 """

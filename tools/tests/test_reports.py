@@ -62,9 +62,9 @@ class EachWord(unittest.TestCase):
     def test_the_page_tells_of_it(self):
         page = read("docs/FORMAT.md").decode()
         for word in REPORTS:
-            self.assertRegex(page, rf"(?m)^\| `{word}` \|")
+            self.assertTrue(re.search(rf"(?m)^\| `{word}` \|", page), f"FORMAT has no row of {word}")
         for word, note in check.NOTES.items():
-            self.assertRegex(page, rf"(?m)^    <caller> <post> {note} ")
+            self.assertTrue(re.search(rf"(?m)^    <caller> <post> {note} ", page), f"FORMAT has no line of {note}")
 
     def test_the_program_is_tested_under_it(self):
         """The tests of the program have a path with its line."""
