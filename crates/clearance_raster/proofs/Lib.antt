@@ -1,5 +1,6 @@
 pub mod AlikeClasses
 pub mod BlockedColumns
+pub mod BlockedRows
 pub mod Rastering
 pub mod Reaching
 pub mod Sizes

@@ -11,6 +11,7 @@
 
 mod canvases;
 mod masks;
+mod met_rows;
 mod rasters;
 mod reaches;
 mod runs;

@@ -14,7 +14,7 @@ ghost use Rattle.clearance_raster.specs.inner.TestRasters.{IsRasterIn};
 
 use crate::canvases::Canvas;
 use crate::masks::{classes_with, is_left};
-use crate::reaches::reach_in;
+use crate::met_rows::met_part;
 use crate::runs::run_in_row;
 use class_config::ClassTable;
 use fixed_point::Fixed;
@@ -114,7 +114,7 @@ fn raster_mask<C: Canvas>(
         shape: *shape,
         clearance,
     };
-    if let Some(rect) = reach_in(shape, clearance, part, size) {
+    if let Some(rect) = met_part(shape, clearance, part, size) {
         for j in rect.j0..rect.j1 + 1 {
             raster_row(canvas, part, &grown, mask, rect, j);
         }

@@ -63,7 +63,7 @@ fn steps_across(shape: &Shape, clearance: Fixed, first: u16, j: u16, end: u16) -
 }
 
 /// The raw number of a component of a unit vector.
-fn slope(component: Fixed) -> i64
+pub fn slope(component: Fixed) -> i64
     ensures value { result ≡ component }
     ensures bounded { unsigned_abs result ≤ 2 ^ 31 }
 {
@@ -80,10 +80,10 @@ fn opposite(component: Fixed) -> i64
 
 /// The first and the last number of columns from 0 to `end`, after which a length is at most `most` on either side of
 /// 0. It is `start` at first and changes by 65536 times `slope` a column. None exactly where there is no such number.
-fn steps_near(start: i64, slope: i64, most: u64, end: u16) -> Option<(u16, u16)>
+pub fn steps_near(start: i64, slope: i64, most: u64, end: u16) -> Option<(u16, u16)>
     requires start { unsigned_abs start ≤ 2 ^ 51 }
     requires slope { unsigned_abs slope ≤ 2 ^ 31 }
-    requires most { most ≤ 2 ^ 48 }
+    requires most { most ≤ 2 ^ 50 }
     ensures within { IfSome result (λ run. (run.0 ≤ run.1) × (run.1 ≤ end)) }
     ensures near { IfSome result (λ run. (k : ℕ) → k ≤ end → (((run.0 ≤ k) × (k ≤ run.1)) ↔ (unsigned_abs (start +ℤ pos (65536 * k) *ℤ slope) ≤ most))) }
     ensures none { IfNone result ((k : ℕ) → k ≤ end → ¬ (unsigned_abs (start +ℤ pos (65536 * k) *ℤ slope) ≤ most)) }
@@ -106,7 +106,7 @@ fn rising(start: i64, slope: i64) -> i64
 /// where it is more already.
 fn moves_near(start: i64, most: u64) -> Option<(u64, u64)>
     requires start { unsigned_abs start ≤ 2 ^ 51 }
-    requires most { most ≤ 2 ^ 48 }
+    requires most { most ≤ 2 ^ 50 }
     ensures near { IfSome result (λ moves. (n : ℕ) → (((moves.0 ≤ n) × (n ≤ moves.1)) ↔ (unsigned_abs (start +ℤ pos n) ≤ most))) }
     ensures none { IfNone result ((n : ℕ) → ¬ (unsigned_abs (start +ℤ pos n) ≤ most)) }
 {
