@@ -172,11 +172,12 @@ def dearest(program):
     area = largest_area(blocked)
     pairs = [(draw.choice(area), draw.choice(area)) for _ in range(300)]
     match = opened(program, [map_line(2048), *bases(blocked)])
-    times = sorted((match.play([path(*pair)]), pair) for pair in pairs)
-    again = [least(match, [[path(*pair)]] * 3) for _, pair in times[-6:]]
-    told("milliseconds", sum(took for took, _ in times) / len(times), times[-4][0], max(again), unit="10.1f")
-    worst = max(zip(again, [pair for _, pair in times[-6:]]))
-    told(f"the dearest, from {worst[1][0]} to {worst[1][1]}, the least of 3", worst[0], unit="10.1f")
+    first = [match.play([path(*pair)]) for pair in pairs]
+    again = [least(match, [[path(*pair)]] * 2) for pair in pairs]
+    for name, times in ("while tables of landmarks come", first), ("once they stand, the least of 2", again):
+        told(f"milliseconds {name}", sum(times) / len(times), sorted(times)[-4], max(times), unit="10.1f")
+    worst, pair = max(zip(again, pairs))
+    told(f"the dearest of these, from {pair[0]} to {pair[1]}", worst, unit="10.1f")
     told("MB at the most", match.memory(), unit="10.1f")
     match.close()
 
