@@ -13,6 +13,9 @@ use nav_types::limits::CHUNK_SIDE;
 use nav_types::{Cell, Chunk, NoMemory};
 use std::alloc::Global;
 
+/// How many regions there is room for at first: most chunks have no more at a time.
+const FEW_REGIONS: usize = 32;
+
 /// A span of a chunk: its row, and its place among the spans of all rows.
 #[derive(Clone, Copy)]
 pub struct Place {
@@ -252,8 +255,8 @@ pub fn number_all(alloc: Global, chunk: Chunk, rows: &RowSpans) -> Result<Number
 {
     let mut all = Growing {
         regions: Vec::with_capacity(alloc, rows.len())?,
-        firsts: Vec::new(alloc),
-        places: Vec::new(alloc),
+        firsts: Vec::with_capacity(alloc, FEW_REGIONS)?,
+        places: Vec::with_capacity(alloc, FEW_REGIONS)?,
     };
     // before the first row there is none, and `south` is where its own spans begin
     let mut south = 0;
