@@ -430,7 +430,7 @@ fn row_is(version: &Version, j: u16, numbers: [u16; 6]) -> bool {
         return false;
     }
     let mut row = [0; 6];
-    version.row_bits(j, &mut row);
+    version.row_bits(j, 0, &mut row);
     row == numbers
 }
 
@@ -450,6 +450,32 @@ fn rows_have_a_bit_for_each_class(rt: HostRuntime) {
     assert!(rt; row_is(&version, 0, [0, 2, 2, 0, 0, 0]));
     assert!(rt; row_is(&version, 1, [0, 2, 2, 0, 0, 0]));
     assert!(rt; row_is(&version, 2, [0, 0, 0, 0, 3, 0]));
+}
+
+/// Whether the row has these numbers from a place on.
+fn part_is(version: &Version, j: u16, from: u16, numbers: [u16; 4]) -> bool {
+    let size = version.size();
+    if size.w < 4 || from > size.w - 4 || j >= size.h {
+        return false;
+    }
+    let mut part = [0; 4];
+    version.row_bits(j, from, &mut part);
+    part == numbers
+}
+
+#[test]
+fn a_part_of_a_row_begins_at_its_place(rt: HostRuntime) {
+    // the wall stands across the border of two chunks
+    let walls = [wall_of([94, 97, 1, 2])];
+    let Some(version) = version_of(rt.alloc(), [200, 3], (2, "0"), &walls) else {
+        panic!(rt; "no map");
+    };
+    assert!(rt; part_is(&version, 0, 0, [0, 0, 0, 0]));
+    assert!(rt; part_is(&version, 0, 92, [0, 0, 2, 2]));
+    assert!(rt; part_is(&version, 0, 93, [0, 2, 2, 2]));
+    assert!(rt; part_is(&version, 1, 95, [2, 2, 2, 0]));
+    assert!(rt; part_is(&version, 2, 95, [0, 0, 0, 0]));
+    assert!(rt; part_is(&version, 1, 196, [0, 0, 0, 0]));
 }
 
 /// How many tables of landmarks a class has. 0 where the map lacks the class.

@@ -1,19 +1,19 @@
 -- Words that are read from a map and written into a band.
-use Rattle.std.proofs.Common.{◌≡◌, ◌≢◌, ℕ, ◌+◌, ◌-◌, ◌*◌, ◌/◌, ◌%◌, ◌<◌, ◌≤◌, Bool, false, List, drop, length, get_or, sym, ap, ◌∙◌, subst, ⊎_elim, max, min, arith}
+use Rattle.std.proofs.Common.{◌≡◌, ◌≢◌, ℕ, ◌+◌, ◌-◌, ◌*◌, ◌/◌, ◌%◌, ◌<◌, ◌≤◌, Bool, false, List, ◌++◌, take, drop, length, get_or, sym, ap, ◌∙◌, subst, ⊎_elim, max, min, arith}
 use Rattle.std.specs.Int.{bit_at}
 use Rattle.std.specs.Prelude.{slice_range}
 use Rattle.std.proofs.lemmas.Bool.{cases_lt, cases_eq}
 use Rattle.std.proofs.lemmas.Nat.{mul-le}
 use Rattle.std.proofs.lemmas.Nat.Bits.{bit_at-zero}
-use Rattle.std.proofs.lemmas.List.{get_or_past, get_or-take, get_or-drop, length-take}
+use Rattle.std.proofs.lemmas.List.{get_or_past, get_or-take, get_or-drop, get_or-append_right, get_or_append_left, length-take, length-take-le}
 use Rattle.nav_types.specs.declared.cells.Rect.{Rect}
 use Rattle.nav_types.specs.declared.cells.Size.{Size}
 use Rattle.nav_types.specs.declared.cells.Cell.{Cell}
-use Rattle.nav_types.specs.Cells.{IsInRect, IsRectInside, cell_at}
+use Rattle.nav_types.specs.Cells.{IsInRect, cell_at}
 use Rattle.nav_types.specs.Rows.{bit_of}
 use Rattle.lane_rows.specs.Rows.{one_if}
 use Rattle.class_planes.specs.inner.Lines.{IsBand, line_in}
-use Rattle.class_planes.specs.inner.Reading.{ReadCells, IsOfWords, AreRead, AreWhole, band_bit, numbers_in, width_of}
+use Rattle.class_planes.specs.inner.Reading.{ReadCells, IsOfWords, AreOfRow, AreRead, AreWhole, band_bit, numbers_in, width_of}
 use Rattle.class_planes.proofs.BitLemmas.{other_bit}
 use Rattle.class_planes.proofs.LineLemmas.{part_long}
 use Rattle.class_planes.proofs.UpdateLemmas.{in_rect_or_not}
@@ -246,56 +246,49 @@ words_within rect words k n start is long below at =
 
 -- ---- a rectangle that is read
 
--- the numbers of a row of a rectangle are those of its cells
-abbrev pub IsRowOf : ℕ → (ℕ → Cell → Bool) → Rect → ℕ → List ℕ → Type 0
-IsRowOf classes passes rect n row = (class i : ℕ) → class < classes → class < 16 → rect.i0 ≤ i → i ≤ rect.i1
-    → bit_at (get_or row (i - rect.i0) 0) class ≡ bit_of (passes class (cell_at i n))
+-- what stands before the items that are put into a list
+put_before : (old new rest : List ℕ) (start p : ℕ) → start ≤ length old → p < start
+    → get_or (take start old ++ (new ++ rest)) p 0 ≡ get_or old p 0
+put_before old new rest start p fits below =
+    let front : length (take start old) ≡ start = length-take-le start old fits in
+    get_or_append_left (take start old) (new ++ rest) 0 p (omega (arith, front, below))
+    ∙ get_or-take start old p 0 below
 
--- a part of a row of the map
-pub row_part : (classes : ℕ) (passes : ℕ → Cell → Bool) (rect : Rect) (n from to : ℕ) (row : List ℕ) → from ≡ rect.i0
-    → to ≡ rect.i1 + 1 → to ≤ length row
-    → ((class i : ℕ) → class < classes → class < 16 → i < length row
-    → bit_at (get_or row i 0) class ≡ bit_of (passes class (cell_at i n)))
-    → IsRowOf classes passes rect n (slice_range row from to)
-row_part classes passes rect n from to row is_from is_to within bits class i known few west east =
-    let there : from + (i - rect.i0) ≡ i = omega (arith, is_from, west) in
-    ap (λ x. bit_at x class) (part_place row from to (i - rect.i0) (omega (arith, is_from, is_to, west, east)))
-    ∙ ap (λ p. bit_at (get_or row p 0) class) there
-    ∙ bits class i known few (omega (arith, is_to, east, within))
+-- and the items themselves
+put_here : (old new rest : List ℕ) (start q : ℕ) → start ≤ length old → q < length new
+    → get_or (take start old ++ (new ++ rest)) (start + q) 0 ≡ get_or new q 0
+put_here old new rest start q fits below =
+    let there : start + q - start ≡ q = omega arith in
+    get_or-append_right (take start old) (new ++ rest) start (start + q) 0 (length-take-le start old fits) (omega arith)
+    ∙ ap (λ p. get_or (new ++ rest) p 0) there
+    ∙ get_or_append_left new rest 0 q below
 
--- the rows that were read are those of the rectangle
-pub rows_read : (size : Size) (classes : ℕ) (passes : ℕ → Cell → Bool) (read : ReadCells)
-    → IsOfWords (size.w / 64 + 1) read.rect → AreWhole read
-    → ((k : ℕ) → k < read.rect.j1 - read.rect.j0 + 1
-    → IsRowOf classes passes read.rect (read.rect.j0 + k) (line_in (width_of read.rect) read.numbers k))
-    → AreRead size classes passes read
-rows_read size classes passes read words whole each = record {
-  words = words;
-  whole = whole;
-  each = λ class i n known few inside.
-      let south : read.rect.j0 ≤ n = inside.south in
-      let north : n ≤ read.rect.j1 = inside.north in
-      let there : read.rect.j0 + (n - read.rect.j0) ≡ n = omega (arith, south) in
-      each (n - read.rect.j0) (omega (arith, south, north)) class i known few inside.west inside.east
-      ∙ ap (λ j. bit_of (passes class (cell_at i j))) there;
-}
+-- the numbers of one row more are written
+pub rows_more : (classes : ℕ) (passes : ℕ → Cell → Bool) (rect : Rect) (k start rows : ℕ) (old new rest : List ℕ)
+    → start ≡ k * width_of rect → length old ≡ rows * width_of rect → k < rows → length new ≡ width_of rect
+    → ((m : ℕ) → m < k → AreOfRow classes passes rect m old)
+    → ((class column : ℕ) → class < classes → class < 16 → column < length new
+    → bit_at (get_or new column 0) class ≡ bit_of (passes class (cell_at (rect.i0 + column) (rect.j0 + k))))
+    → (m : ℕ) → m < k + 1 → AreOfRow classes passes rect m (take start old ++ (new ++ rest))
+rows_more classes passes rect k start rows old new rest at long below wide before row m less class column known few within =
+    let w : ℕ = width_of rect in
+    let fits : k * w + w ≤ length old = row_within (length old) k rows w long below in
+    let room : start ≤ length old = omega (arith, at, fits) in
+    ⊎_elim
+    (λ (early : m < k).
+    let more : (m + 1) * w ≤ k * w = mul-le (m + 1) w k w (omega (arith, early)) (omega arith) in
+    ap (λ x. bit_at x class) (put_before old new rest start (m * w + column) room (omega (arith, at, more, within)))
+    ∙ before m early class column known few within)
+    (λ (late : k ≤ m).
+    let here : m ≡ k = omega (arith, late, less) in
+    let place : m * w + column ≡ start + column = ap (λ n. n * w + column) here ∙ omega (arith, at) in
+    ap (λ p. bit_at (get_or (take start old ++ (new ++ rest)) p 0) class) place
+    ∙ ap (λ x. bit_at x class) (put_here old new rest start column room (omega (arith, wide, within)))
+    ∙ row class column known few (omega (arith, wide, within))
+    ∙ ap (λ n. bit_of (passes class (cell_at (rect.i0 + column) (rect.j0 + n)))) (sym here))
+    (cases_lt m k)
 
--- the words that a rectangle meets
-pub words_of : (rect words : Rect) (size : Size) → IsRectInside size rect → words.i0 ≡ 64 * (rect.i0 / 64)
-    → words.i1 ≡ 64 * (rect.i1 / 64) + 63 → words.j0 ≡ rect.j0 → words.j1 ≡ rect.j1 → IsOfWords (size.w / 64 + 1) words
-words_of rect words size inside from to low high =
-    let across : rect.i0 ≤ rect.i1 = inside.columns in
-    let along : rect.j0 ≤ rect.j1 = inside.rows in
-    let east : rect.i1 < size.w = inside.last_column in
-    record {
-      first = omega (arith, from);
-      last = omega (arith, to);
-      columns = omega (arith, from, to, across);
-      within = omega (arith, to, east);
-      rows = omega (arith, low, high, along);
-    }
-
--- and they hold its cells
+-- the words that a rectangle meets hold its cells
 pub cells_met : (rect words : Rect) (cell : Cell) → words.i0 ≡ 64 * (rect.i0 / 64) → words.i1 ≡ 64 * (rect.i1 / 64) + 63
     → words.j0 ≡ rect.j0 → words.j1 ≡ rect.j1 → IsInRect rect cell → IsInRect words cell
 cells_met rect words cell from to low high inside =
@@ -309,10 +302,3 @@ cells_met rect words cell from to low high inside =
       south = omega (arith, low, c);
       north = omega (arith, high, d);
     }
-
--- no row is read yet
-pub none_read : (a wide : ℕ) → 0 ≡ (a - a) * wide
-none_read a wide =
-    let none : 0 ≡ 0 * wide = omega arith in
-    let zero : 0 ≡ a - a = omega arith in
-    none ∙ ap (λ n. n * wide) zero

@@ -1,9 +1,9 @@
 //! The numbers of the cells of changed rectangles, which are read once for all classes.
-ghost use Rattle.std.specs.Prelude.{◌≡◌, ◌<◌, ◌≤◌, ◌+◌, ◌*◌, ◌/◌, All, length, IfOk};
+ghost use Rattle.std.specs.Prelude.{◌≡◌, ◌<◌, ◌≤◌, ◌+◌, ◌-◌, ◌*◌, ◌/◌, ℕ, All, length, IfOk};
 ghost use Rattle.nav_types.specs.declared.cells.Cell.{Cell};
 ghost use Rattle.nav_types.specs.Cells.{IsInRect, IsRectInside};
 ghost use Rattle.class_planes.specs.Planes.{IsOutside};
-ghost use Rattle.class_planes.specs.inner.Reading.{AreRead, AreWhole, IsUnread, numbers_in};
+ghost use Rattle.class_planes.specs.inner.Reading.{AreRead, AreWhole, AreOfRow, IsUnread, numbers_in, width_of};
 
 use crate::rows::read_row;
 use nav_types::{NoMemory, Rect, Rows};
@@ -60,41 +60,47 @@ pub fn read_rects<V: Rows>(
         All (AreRead (V.extent view.now) (V.class_count view.now) (V.passes view.now)) reads.items) }
     ensures covered { IfOk result (λ reads. (cell : Cell) → IsUnread reads.items cell → IsOutside rects.now cell) }
 {
-    let mut row = vec![in alloc; 0; 64 * (usize::from(view.size().w) / 64 + 1)]?;
     let mut reads = Vec::with_capacity(alloc, rects.len())?;
     for rect in rects {
-        let read = read_rect(alloc, view, *rect, &mut row)?;
+        let read = read_rect(alloc, view, *rect)?;
         reads.push(read)?;
     }
     Ok(reads)
 }
 
-/// The cells of the words that the rectangle meets. `row` has room for the numbers of a row.
-fn read_rect<V: Rows>(
-    alloc: Global,
-    view: &V,
-    rect: Rect,
-    row: &mut [u16],
-) -> Result<ReadRect, NoMemory>
+/// The cells of the words that the rectangle meets.
+fn read_rect<V: Rows>(alloc: Global, view: &V, rect: Rect) -> Result<ReadRect, NoMemory>
     requires inside { IsRectInside (V.extent view.now) rect }
-    requires room { length row.old ≡ 64 * ((V.extent view.now).w / 64 + 1) }
-    ensures stays { length row.new ≡ length row.old }
     ensures read { IfOk result (AreRead (V.extent view.now) (V.class_count view.now) (V.passes view.now)) }
     ensures covered { IfOk result (λ read. (cell : Cell) → IsInRect rect cell → IsInRect read.rect cell) }
 {
     let words = whole_words(rect);
-    let from = usize::from(words.i0);
-    let to = usize::from(words.i1) + 1;
+    let width = usize::from(words.i1 - words.i0) + 1;
     let rows = usize::from(words.j1 - words.j0) + 1;
-    let mut numbers = Vec::with_capacity(alloc, rows * (to - from))?;
-    for j in words.j0..words.j1 + 1 {
-        read_row(view, j, row);
-        numbers.extend_from_slice(&row[from..to])?;
-    }
+    let mut numbers = vec![in alloc; 0; rows * width]?;
+    read_rows(view, words, &mut numbers);
     Ok(ReadRect {
         rect: words,
         numbers,
     })
+}
+
+/// Reads the numbers of the rectangle's cells, row by row.
+fn read_rows<V: Rows>(view: &V, rect: Rect, numbers: &mut [u16])
+    requires columns { rect.i0 ≤ rect.i1 }
+    requires rows { rect.j0 ≤ rect.j1 }
+    requires west { rect.i0 ≤ (V.extent view.now).w }
+    requires north { rect.j1 < (V.extent view.now).h }
+    requires whole { length numbers.old ≡ (rect.j1 - rect.j0 + 1) * width_of rect }
+    ensures stays { length numbers.new ≡ length numbers.old }
+    ensures each { (k : ℕ) → k < rect.j1 - rect.j0 + 1 → AreOfRow (V.class_count view.now) (V.passes view.now) rect k
+        numbers.new }
+{
+    let width = usize::from(rect.i1 - rect.i0) + 1;
+    for j in rect.j0..rect.j1 + 1 {
+        let start = usize::from(j - rect.j0) * width;
+        read_row(view, j, rect.i0, &mut numbers[start..start + width]);
+    }
 }
 
 /// The rectangle of the words that a rectangle meets.

@@ -105,7 +105,7 @@ impl Scratch {
         ensures bits { AreFreeBits (λ i. V.passes view.now class (cell_at i j)) self.new }
     {
         if j < view.size().h {
-            read_row(view, j, &mut self.row);
+            read_row(view, j, 0, &mut self.row);
             free_words(&self.row, class.number(), &mut self.line);
         } else {
             self.line.fill(0);
@@ -113,18 +113,19 @@ impl Scratch {
     }
 }
 
-/// Reads the numbers of row `j`. The places past the row have every bit set, as impassable cells have.
-pub fn read_row<V: Rows>(view: &V, j: u16, row: &mut [u16])
+/// Reads the numbers of row `j` from place `from` on. The places past the row have every bit set, as impassable cells
+/// have.
+pub fn read_row<V: Rows>(view: &V, j: u16, from: u16, row: &mut [u16])
     requires row { j < (V.extent view.now).h }
-    requires room { (V.extent view.now).w ≤ length row.old }
+    requires from { from ≤ (V.extent view.now).w }
     ensures stays { length row.new ≡ length row.old }
-    ensures bits { (class i : ℕ) → class < V.class_count view.now → class < 16 → i < length row.new
-        → bit_at (slice_index row.new i) class ≡ bit_of (V.passes view.now class (cell_at i j)) }
+    ensures bits { (class k : ℕ) → class < V.class_count view.now → class < 16 → k < length row.new
+        → bit_at (slice_index row.new k) class ≡ bit_of (V.passes view.now class (cell_at (from + k) j)) }
 {
-    let wide = usize::from(view.size().w);
+    let within = row.len().min(usize::from(view.size().w - from));
     // the view writes the rest
-    row[wide..].fill(u16::MAX);
-    view.row_bits(j, &mut row[..wide]);
+    row[within..].fill(u16::MAX);
+    view.row_bits(j, from, &mut row[..within]);
 }
 
 /// Writes the bits of the places that are free of the class.

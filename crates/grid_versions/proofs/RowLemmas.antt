@@ -1,8 +1,9 @@
 -- The numbers of a painted map's row.
-use Rattle.std.proofs.Common.{◌≡◌, ℕ, zero, suc, ◌+◌, ◌-◌, ◌*◌, ◌/◌, ◌==◌, ◌<◌, ◌≤◌, not, List, length, get_or, Some, refl, sym, ap, ◌∙◌, subst, ⊎_elim, arith}
+use Rattle.std.proofs.Common.{◌≡◌, ℕ, zero, suc, ◌+◌, ◌-◌, ◌*◌, ◌/◌, ◌==◌, ◌<◌, ◌≤◌, ◌++◌, not, List, length, take, drop, get_or, Some, refl, sym, ap, ◌∙◌, subst, ⊎_elim, arith}
 use Rattle.std.specs.Int.{bit_at}
 use Rattle.std.specs.Prelude.{slice_get}
 use Rattle.std.proofs.lemmas.Bool.{cases_lt}
+use Rattle.std.proofs.lemmas.List.{get_or-append_right, get_or_append_left, get_or-take, get_or-drop, length-drop, length-take-le}
 use Rattle.std.proofs.lemmas.Nat.Bits.{bit_at-lt}
 use Rattle.nav_types.specs.declared.cells.Cell.{Cell}
 use Rattle.nav_types.specs.declared.cells.Chunk.{Chunk}
@@ -62,30 +63,42 @@ holds_row map standing size j ci found same high below painted =
     subst (λ (r : Rect). HoldsRow map.size j ci r) (sym painted.extent)
     (record { south = omega arith; north = omega arith; east = omega arith })
 
--- the bits of a row's numbers, where those of one chunk more are written behind the others
-pub row_more : (map : Map) (standing : Standing) (j ci from to k i : ℕ) (found : Numbering) (row old new : List ℕ)
-    → j < map.size.h → IsPaintedChunk map standing (chunk_at ci (j / 96)) found → from ≡ 96 * ci → to ≡ 96 * (ci + 1)
-    → k < length map.classes
+-- the bits of the numbers from place `from` on, where those of one chunk more are written behind the others
+pub row_more : (map : Map) (standing : Standing) (j ci from west k i : ℕ) (found : Numbering) (row old new : List ℕ)
+    → j < map.size.h → IsPaintedChunk map standing (chunk_at ci (j / 96)) found → west ≡ 96 * ci → k < length map.classes
     → length row ≡ columns found.rect
     → ((cell : Cell) → IsInRect found.rect cell → cell.j ≡ j → get_or row (cell.i - found.rect.i0) 0 ≡ number_of found cell)
-    → ((p : ℕ) → p < length row → get_or new (from + p) 0 ≡ get_or row p 0)
-    → ((p : ℕ) → p < from → get_or new p 0 ≡ get_or old p 0)
-    → (i < from → bit_at (get_or old i 0) k ≡ bit_of (passable_at map standing k (cell_at i j)))
-    → i < to → i < map.size.w → bit_at (get_or new i 0) k ≡ bit_of (passable_at map standing k (cell_at i j))
-row_more map standing j ci from to k i found row old new high painted from_is to_is class long cells inside before so_far below within = ⊎_elim
-    (λ (early : i < from). ap (λ n. bit_at n k) (before i early) ∙ so_far early)
-    (λ (late : from ≤ i).
-    let cell : Cell = cell_at i j in
+    → ((p : ℕ) → p < length new → west ≤ from + p → from + p < west + length row
+    → get_or new p 0 ≡ get_or row (from + p - west) 0)
+    → ((p : ℕ) → from + p < west → get_or new p 0 ≡ get_or old p 0)
+    → (from + i < west → bit_at (get_or old i 0) k ≡ bit_of (passable_at map standing k (cell_at (from + i) j)))
+    → i < length new → from + i < 96 * (ci + 1) → from + i < map.size.w
+    → bit_at (get_or new i 0) k ≡ bit_of (passable_at map standing k (cell_at (from + i) j))
+row_more map standing j ci from west k i found row old new high painted is class long cells inside before so_far room below within = ⊎_elim
+    (λ (early : from + i < west). ap (λ n. bit_at n k) (before i early) ∙ so_far early)
+    (λ (late : west ≤ from + i).
+    let cell : Cell = cell_at (from + i) j in
     let in_map : IsInside map.size cell = record { column = within; row = high } in
-    let column : i / 96 ≡ ci = omega arith in
+    let column : (from + i) / 96 ≡ ci = omega arith in
     let here : chunk_at ci (j / 96) ≡ chunk_of cell = same_chunk (chunk_at ci (j / 96)) (chunk_of cell) (sym column) refl in
     let own = subst (λ (c : Chunk). IsPaintedChunk map standing c found) here painted in
     let in_rect = in_own_rect map standing cell found in_map own in
-    let west : found.rect.i0 ≡ from = ap (λ (r : Rect). r.i0) painted.extent ∙ omega arith in
+    let starts : found.rect.i0 ≡ west = ap (λ (r : Rect). r.i0) painted.extent ∙ omega arith in
     let east = in_rect.east in
-    let place : from + (i - from) ≡ i = omega arith in
-    let small : i - from < length row = omega (arith, long, west) in
-    ap (λ n. bit_at n k) (ap (λ p. get_or new p 0) (sym place) ∙ inside (i - from) small
-    ∙ ap (λ p. get_or row (i - p) 0) (sym west) ∙ cells cell in_rect refl)
+    let small : from + i < west + length row = omega (arith, long, starts) in
+    ap (λ n. bit_at n k) (inside i room late small ∙ ap (λ p. get_or row (from + i - p) 0) (sym starts)
+    ∙ cells cell in_rect refl)
     ∙ number_bit map standing cell found k in_map class own)
-    (cases_lt i from)
+    (cases_lt (from + i) west)
+
+-- a part of the numbers, put into a list
+pub put_inside : (out numbers rest : List ℕ) (start count skip k : ℕ) → start ≤ length out → skip + count ≤ length numbers
+    → start ≤ k → k < start + count
+    → get_or (take start out ++ (take count (drop skip numbers) ++ rest)) k 0 ≡ get_or numbers (skip + (k - start)) 0
+put_inside out numbers rest start count skip k fits given low high =
+    let part : List ℕ = take count (drop skip numbers) in
+    let long : length part ≡ count = length-take-le count (drop skip numbers) (omega (arith, length-drop skip numbers, given)) in
+    get_or-append_right (take start out) (part ++ rest) start k 0 (length-take-le start out fits) low
+    ∙ get_or_append_left part rest 0 (k - start) (omega (arith, long, low, high))
+    ∙ get_or-take count (drop skip numbers) (k - start) 0 (omega (arith, low, high))
+    ∙ get_or-drop skip numbers (k - start) 0

@@ -1,5 +1,5 @@
 //! A map whose cells are painted: the view from which planes are made.
-ghost use Rattle.std.specs.Prelude.{ℕ, ◌≡◌, ◌+◌, ◌≤◌, ◌<◌, length, slice_index};
+ghost use Rattle.std.specs.Prelude.{ℕ, ◌≡◌, ◌+◌, ◌-◌, ◌≤◌, ◌<◌, length, slice_index};
 ghost use Rattle.grid_versions.specs.Versions.{map_state};
 ghost use Rattle.grid_versions.specs.inner.Painting.{ArePaintedChunks};
 
@@ -74,24 +74,30 @@ impl<'a> View for PaintedMap<'a> {
 }
 
 impl<'a> Rows for PaintedMap<'a> {
-    fn row_bits(&self, j: u16, out: &mut [u16]) {
+    fn row_bits(&self, j: u16, from: u16, out: &mut [u16]) {
         let size = self.site.map.size();
-        for ci in 0..chunks::columns(size) {
+        let end = from + out.len() as u16;
+        for ci in from / CHUNK_SIDE..(end + CHUNK_SIDE - 1) / CHUNK_SIDE {
             let cj = j / CHUNK_SIDE;
             let place = chunks::place_of(size, Chunk { cj, ci });
             let row = self.cells.at(place as usize).row(j);
-            write_numbers(out, usize::from(ci * CHUNK_SIDE), row);
+            write_part(out, from, row, ci * CHUNK_SIDE);
         }
     }
 }
 
-/// Writes the numbers to the places from `from` on.
-fn write_numbers(out: &mut [u16], from: usize, numbers: &[u16])
-    requires { from + length numbers.now ≤ length out.old }
+/// Writes the numbers of the places from `west` on to those from `from` on, where both are.
+fn write_part(out: &mut [u16], from: u16, numbers: &[u16], west: u16)
+    requires here { from ≤ west + length numbers.now }
+    requires there { west ≤ from + length out.old }
     ensures stays { length out.new ≡ length out.old }
-    ensures inside { (k : ℕ) → k < length numbers.now
-        → slice_index out.new (from + k) ≡ slice_index numbers.now k }
-    ensures before { (k : ℕ) → k < from → slice_index out.new k ≡ slice_index out.old k }
+    ensures inside { (k : ℕ) → k < length out.new → west ≤ from + k → from + k < west + length numbers.now
+        → slice_index out.new k ≡ slice_index numbers.now (from + k - west) }
+    ensures before { (k : ℕ) → from + k < west → slice_index out.new k ≡ slice_index out.old k }
 {
-    out[from..from + numbers.len()].copy_from_slice(numbers);
+    let from = usize::from(from);
+    let west = usize::from(west);
+    let first = from.max(west);
+    let end = (from + out.len()).min(west + numbers.len());
+    out[first - from..end - from].copy_from_slice(&numbers[first - west..end - west]);
 }

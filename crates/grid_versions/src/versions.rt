@@ -494,16 +494,16 @@ impl View for Version {
 }
 
 impl Rows for Version {
-    /// Writes one number for each cell of row `j`: bit k is set exactly where the cell is impassable for class k
-    /// (`AreRowBits`).
-    fn row_bits(&self, j: u16, out: &mut [u16]) {
+    /// Writes one number for each cell of row `j` from place `from` on, as many as there is room for: bit k is set exactly
+    /// where the cell is impassable for class k (`AreRowBits`).
+    fn row_bits(&self, j: u16, from: u16, out: &mut [u16]) {
         let parts = self.kept();
         let site = Site {
             map: self.map(),
             shapes: self.shapes(),
         };
         let painted = PaintedMap::new(&site, &parts.layers.cell_layer.cells);
-        painted.row_bits(j, out);
+        painted.row_bits(j, from, out);
     }
 }
 

@@ -42,7 +42,7 @@ fn mark_row<V: Rows>(marks: &mut Vec<u16>, view: &V, class: Class, j: u16, row: 
     ensures marks { AreMarks (V.passes view.now class) (V.extent view.now) 0 (j + 1) marks.new.items }
 {
     let size = view.size();
-    view.row_bits(j, row);
+    view.row_bits(j, 0, row);
     for i in 0..size.w {
         if is_free(row[usize::from(i)], class) {
             marks[spot(size, Cell::new(i, j))] = FREE;

@@ -46,16 +46,17 @@ pub trait View {
         → IsInside (extent view) cell };
 }
 
-/// A map that hands out the bits of a whole row at once.
+/// A map that hands out the bits of a row, or of a part of it, at once.
 pub trait Rows: View {
-    ghost use Rattle.std.specs.Prelude.{◌≡◌, ◌<◌, length};
+    ghost use Rattle.std.specs.Prelude.{◌<◌, ◌≤◌, ◌+◌, length};
     ghost use Rattle.nav_types.specs.Rows.{AreRowBits};
 
-    /// Writes one number for each cell of row `j`: bit k is set exactly where the cell is impassable for class k.
-    fn row_bits(&self, j: u16, out: &mut [u16])
+    /// Writes one number for each cell of row `j` from place `from` on, as many as there is room for: bit k is set exactly
+    /// where the cell is impassable for class k.
+    fn row_bits(&self, j: u16, from: u16, out: &mut [u16])
         requires row { j < (Self.extent self.now).h }
-        requires width { length out.old ≡ (Self.extent self.now).w }
-        ensures { AreRowBits (Self.extent self.now) (Self.class_count self.now) (Self.passes self.now) j out.new };
+        requires within { from + length out.old ≤ (Self.extent self.now).w }
+        ensures { AreRowBits (Self.class_count self.now) (Self.passes self.now) j from (length out.old) out.new };
 }
 
 /// A map that finds the passable and the impassable cells along its rows and columns. Any view is one by

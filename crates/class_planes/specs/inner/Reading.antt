@@ -34,6 +34,12 @@ pub record IsOfWords (words : ℕ) (rect : Rect) : Type 0 where
 abbrev pub AreWhole : ReadCells → Type 0
 AreWhole read = length read.numbers ≡ (read.rect.j1 - read.rect.j0 + 1) * width_of read.rect
 
+-- the numbers of the rectangle's row k, counted from its first one, are those of its cells
+abbrev pub AreOfRow : ℕ → (ℕ → Cell → Bool) → Rect → ℕ → List ℕ → Type 0
+AreOfRow classes passes rect k numbers = (class column : ℕ) → class < classes → class < 16 → column < width_of rect
+    → bit_at (slice_index numbers (k * width_of rect + column)) class
+    ≡ bit_of (passes class (cell_at (rect.i0 + column) (rect.j0 + k)))
+
 -- the cells of a map of this width: bit k of a number is set exactly where its cell is impassable for class k
 pub record AreRead (size : Size) (classes : ℕ) (passes : ℕ → Cell → Bool) (read : ReadCells) : Type 0 where
   pub words : IsOfWords (size.w / 64 + 1) read.rect

@@ -1,7 +1,6 @@
-use Rattle.std.proofs.Common.{ℕ, ◌≡◌, [], ◌∷◌, ◌++◌, List, length, sym, ap, ◌∙◌, subst, arith}
+use Rattle.std.proofs.Common.{ℕ, ◌≡◌, [], ◌∷◌, ◌++◌, List, sym, subst, arith}
 use Rattle.std.specs.Prelude.{All}
-use Rattle.std.specs.Vec.{with_items}
-use Rattle.std.proofs.lemmas.List.{take_all, with_items_is}
+use Rattle.std.proofs.lemmas.List.{take_all}
 use Rattle.std.proofs.lemmas.List.Elements.{All-more, All-push}
 use Rattle.nav_types.specs.declared.cells.Rect.{Rect}
 use Rattle.nav_types.specs.Cells.{IsInRect}
@@ -19,12 +18,8 @@ loop-rect-preserved g c =
     let Right = AreRead (g.V.View.extent view) (g.V.View.class_count view) (g.V.View.passes view) in
     let before : List ReadCells = c.loop-rect.reads.items in
     let read : ReadCells = c.in_ok-read.read in
-    let row : List ℕ = c.read_rect.new.row in
-    let kept : (with_items c.loop-rect.row row).items ≡ row =
-    with_items_is c.loop-rect.row row (c.read_rect.auto.row ∙ c.deref_mut.ensures.len) in
     let appended : c.push.new.self.items ≡ before ++ read ∷ [] = c.in_ok-push.ensures.items in
     record {
-      room = ap length kept ∙ c.read_rect.ensures.stays ∙ ap length c.deref_mut.ensures.value ∙ c.loop-rect.invariant.room;
       read = subst (λ (rs : List ReadCells). All Right rs) (sym appended)
           (All-push Right before read c.loop-rect.invariant.read c.in_ok-read.ensures.read);
       covered = λ cell out.

@@ -1,4 +1,4 @@
-use Rattle.std.proofs.Common.{◌≡◌, ◌+◌, ◌*◌, ◌/◌, length, take}
+use Rattle.std.proofs.Common.{take}
 use Rattle.std.specs.Prelude.{All}
 use Rattle.nav_types.specs.declared.cells.Cell.{Cell}
 use Rattle.class_planes.specs.Planes.{IsOutside}
@@ -8,7 +8,6 @@ use Rattle.class_planes.proofs.read_cells.read_rects.Given as goal
 -- the first rectangles are read
 abbrev pub invariant-loop-rect : goal.invariant-loop-rect
 invariant-loop-rect g l = record {
-  room : length l.row.items ≡ 64 * ((g.V.View.extent l.view).w / 64 + 1);
   read : All (AreRead (g.V.View.extent l.view) (g.V.View.class_count l.view) (g.V.View.passes l.view)) l.reads.items;
   covered : (cell : Cell) → IsUnread l.reads.items cell → IsOutside (take l.rect-index l.rects) cell;
 }

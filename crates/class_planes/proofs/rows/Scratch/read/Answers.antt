@@ -4,6 +4,7 @@ use Rattle.std.specs.Vec.{with_items}
 use Rattle.std.proofs.lemmas.List.{with_items_is}
 use Rattle.nav_types.specs.declared.cells.Size.{Size}
 use Rattle.nav_types.specs.Cells.{cell_at}
+use Rattle.nav_types.specs.Rows.{bit_of}
 use Rattle.lane_rows.specs.Rows.{one_if}
 use Rattle.class_planes.proofs.BitLemmas.{line_bits, no_bits}
 use Rattle.class_planes.proofs.CellLemmas.{east_of, north_of}
@@ -34,8 +35,10 @@ returns-then-j-size-clause-bits g c i =
     ap (λ xs. bit_at (get_or xs (i / 64) 0) (i % 64)) kept
     ∙ line_bits (λ i. g.V.View.passes view c.args.class (cell_at i c.args.j)) row line c.args.class i long
     (λ below. let read_there : i < length read = omega (arith, ap length same) in
+    let begins : 0 + i ≡ i = omega arith in
     ap (λ xs. bit_at (get_or xs i 0) c.args.class) same ∙ c.read_row.ensures.bits c.args.class i c.requires.class small
-    read_there)
+    read_there
+    ∙ ap (λ n. bit_of (g.V.View.passes view c.args.class (cell_at n c.args.j))) begins)
     (λ past. let east : w ≤ i = omega arith in
     east_of size (g.V.View.passes view c.args.class) i c.args.j (g.met.V.View.within view c.args.class) east)
     (λ below. c.free_words.ensures.bits i below ∙ ap (λ (n : ℕ). 1 - bit_at (get_or row i 0) n) class_is)

@@ -1,4 +1,4 @@
-use Rattle.std.proofs.Common.{◌≡◌, ◌<◌, ◌∙◌, length, ap, sym, subst}
+use Rattle.std.proofs.Common.{◌≡◌, ◌<◌, ◌≤◌, ◌+◌, ◌∙◌, length, ap, sym, subst}
 use Rattle.std.specs.Arc.{arc_value}
 use Rattle.nav_types.specs.Rows.{AreRowBits}
 use Rattle.obstruction_store.specs.Standing.{Standing}
@@ -28,15 +28,17 @@ row_bits-requires-clause-row c =
     (arc_value c.parts.inside.shapes) (c.parts.view_is ∙ c.kept-parts.ensures) c.map.ensures c.shapes.ensures.standing in
     subst (λ (s : MapState). c.args.j < s.map.size.h) (sym (c.new-painted.ensures ∙ read)) c.requires.row
 
-pub row_bits-requires-clause-width : goal.row_bits-requires-clause-width
-row_bits-requires-clause-width c =
+pub row_bits-requires-clause-within : goal.row_bits-requires-clause-within
+row_bits-requires-clause-within c =
     let read = same_state c.args.self.now c.map.result.now (arc_value c.parts.inside.map) c.shapes.result.now
     (arc_value c.parts.inside.shapes) (c.parts.view_is ∙ c.kept-parts.ensures) c.map.ensures c.shapes.ensures.standing in
-    subst (λ (s : MapState). length c.args.out.now ≡ s.map.size.w) (sym (c.new-painted.ensures ∙ read)) c.requires.width
+    subst (λ (s : MapState). c.args.from + length c.args.out.now ≤ s.map.size.w) (sym (c.new-painted.ensures ∙ read))
+    c.requires.within
 
 pub returns : goal.returns
 returns c =
     let read = same_state c.args.self.now c.map.result.now (arc_value c.parts.inside.map) c.shapes.result.now
     (arc_value c.parts.inside.shapes) (c.parts.view_is ∙ c.kept-parts.ensures) c.map.ensures c.shapes.ensures.standing in
-    subst (λ (s : MapState). AreRowBits s.map.size (length s.map.classes) (passes_of s) c.args.j c.row_bits.new.out)
+    subst (λ (s : MapState). AreRowBits (length s.map.classes) (passes_of s) c.args.j c.args.from (length c.args.out.now)
+    c.row_bits.new.out)
     (c.new-painted.ensures ∙ read) c.row_bits.ensures
