@@ -41,7 +41,7 @@ SKIPS = [
      "read the grammar of lines, `Grammar`, in place of the functions that read them"),
     ("script_text", ["canonical_reads_back"], "script_text.specs.ReadsBack", ["canon_script"],
      "the journal of `serve` reads back as the map and the turns that it was written from, where it is within the limits of an input"),
-    ("script_text", ["line_causes", "true_causes", "strange_lines", "blank_lines", "deep_lines", "unread_lines", "end_causes"], "script_text.specs.Causes", ["cause", "end_cause"],
+    ("script_text", ["line_causes", "true_causes", "strange_lines", "array_lines", "blank_lines", "deep_lines", "unread_lines", "end_causes"], "script_text.specs.Causes", ["cause", "end_cause"],
      "exactly the bad lines have a cause, and what it says of a JSON value, or of another line's bytes, is true (`IsTrueOf`, `IsTrueOfBytes`); of places in a script and versions these two alone tell"),
     ("answer_text", ["waypoint_is_canonical"], "answer_text.specs.Answers", ["waypoint_text"],
      "a waypoint is the text of its cell's centre along both axes"),

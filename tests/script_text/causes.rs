@@ -36,11 +36,16 @@ fn have_causes(rt: &impl Abort, alloc: Global, map: &str, rows: &[Row]) {
 }
 
 /// What a script has in the place of its map line.
-const NO_MAP_LINE: [Row; 4] = [
+const NO_MAP_LINE: [Row; 5] = [
     (
         "{\"size\":[5,4],\"callers\":2,\"classes\":[{\"name\":\"a\",\"clearance\":\"0\"}]}\n",
         Cause::MissingKey { key: Key::Version },
         "the line must have the key \"version\" too",
+    ),
+    (
+        "[{\"version\":3,\"size\":[5,4],\"callers\":2,\"classes\":[{\"name\":\"a\",\"clearance\":\"0\"}]},{\"end\":1}]\n",
+        Cause::ArrayLine,
+        "the line must be an object, and is an array: each object of a script must have a line of its own",
     ),
     (
         "",
@@ -68,7 +73,7 @@ fn a_script_without_its_map_line_has_a_cause(rt: HostRuntime) {
 }
 
 /// Lines behind a map line of version 3.
-const THIRD_LINES: [Row; 18] = [
+const THIRD_LINES: [Row; 20] = [
     (
         "{\"caller\":0,\n",
         Cause::EndsInValue,
@@ -111,6 +116,16 @@ const THIRD_LINES: [Row; 18] = [
     ),
     (
         "[[[[[[[[]]]]]]],[[[[[[[\"[{\\\"[{\\\\\"]]]]]]]]\n",
+        Cause::ArrayLine,
+        "the line must be an object, and is an array: each object of a script must have a line of its own",
+    ),
+    (
+        "[{\"caller\":0,\"remove\":1},{\"end\":1}]\n",
+        Cause::ArrayLine,
+        "the line must be an object, and is an array: each object of a script must have a line of its own",
+    ),
+    (
+        "\"end\"\n",
         Cause::NoSuchForm,
         "the line must be an object with exactly the keys of one form",
     ),

@@ -27,6 +27,7 @@ WORDS = "only true, false, null and numbers stand without quotes"
 ZERO = "a number must not have a zero before its other digits"
 BEHIND = "a line has one value, and this stands behind it"
 FORM = "the line must be an object with exactly the keys of one form"
+ARRAY = "the line must be an object, and is an array: each object of a script must have a line of its own"
 PLACES = "the map line must be line 1 alone, and base lines must stand between it and the turns"
 
 
@@ -55,7 +56,9 @@ MISTAKES = [
     ("Python's None", lines(FIRST, '{"caller":0,"remove":None}'), 2, "byte 22: JSON has no NaN, no Infinity and no None"),
     ("half a line", lines(FIRST, '{"caller":0,"add":1,"unit":["6","4"'), 2, "the line must be one JSON value, and ends inside an array or an object"),
     ("two objects on a line", lines(FIRST, ADD+END), 2, f"byte 51: {BEHIND}"),
-    ("all lines in an array", "["+FIRST+","+END+"]\n", 1, FORM),
+    ("all lines in an array", "["+FIRST+","+END+"]\n", 1, ARRAY),
+    ("a post in an array", lines(FIRST, "["+ADD+"]", END), 2, ARRAY),
+    ("a text for a line", lines(FIRST, '"end 1"'), 2, FORM),
     ("an object over several lines", lines(FIRST, '{','  "end": 1','}'), 2, "the line must be one JSON value, and ends inside an array or an object"),
     ("too deep", lines(FIRST, '{"caller":0,"remove":'+'['*9+']'*9+'}'), 2, "the line must not have arrays and objects more than 8 deep"),
     ("a missing comma", lines(FIRST, '{"caller":0 "remove":1}'), 2, "byte 13: a comma or a colon is missing before this"),

@@ -36,6 +36,7 @@ pub mod CauseLemmas
 pub mod HeldCauses
 pub mod StopCauses
 pub mod TrueCauses
+pub mod ArrayLines
 pub mod BrokenLines
 pub mod TrueBytes
 pub mod BlankLines

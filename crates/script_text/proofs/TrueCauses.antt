@@ -13,7 +13,7 @@ use Rattle.class_config.specs.Forms.{has_keys, keys_of as names_of}
 use Rattle.script_text.specs.declared.parts.Part.{Part}
 use Rattle.script_text.specs.declared.parts.Part.TheVariants.{BeforeMap, InBase, InTurns}
 use Rattle.script_text.specs.declared.causes.Cause.{Cause}
-use Rattle.script_text.specs.declared.causes.Cause.TheVariants.{WrongValue, WrongRectangle, MissingMask, LaterVersion, NotHere}
+use Rattle.script_text.specs.declared.causes.Cause.TheVariants.{ArrayLine, NoSuchForm, WrongValue, WrongRectangle, MissingMask, LaterVersion, NotHere}
 use Rattle.script_text.specs.declared.causes.keys.Key.{Key}
 use Rattle.script_text.specs.declared.causes.keys.Wanted.{Wanted}
 use Rattle.script_text.specs.declared.causes.keys.Wanted.TheVariants.{Whole, Caller, Turn, Sides, Classes, Rectangles, ClassName, TwoDecimals, ThreeDecimals, SixDecimals, NumberAndDecimal, Goal}
@@ -26,7 +26,7 @@ use Rattle.script_text.specs.Values.{under, array_items}
 use Rattle.script_text.specs.Forms.{entry_of}
 use Rattle.script_text.specs.Goals.{goal_of}
 use Rattle.script_text.specs.Grammar.{IsObject, IsEntry, bare_add_keys, add_keys, move_keys, path_keys, region_keys}
-use Rattle.script_text.specs.Causes.{is_wanted, is_right, first_wrong, fields_of, is_no_entry, wrong_items, wrong_array, wrong_by, wrong_value, first_version, is_map, is_base, form_cause, is_unknown, unknown_key, first_missing, named_in, first_surplus, unfit_by, unfit_cause, strange_cause, other_version, no_form_cause, version_of, cause_by, value_cause}
+use Rattle.script_text.specs.Causes.{is_wanted, is_right, first_wrong, fields_of, is_no_entry, wrong_items, wrong_array, wrong_by, wrong_value, first_version, is_map, is_base, form_cause, is_unknown, unknown_key, first_missing, named_in, first_surplus, unfit_by, is_array, unfit_cause, strange_cause, other_version, no_form_cause, version_of, cause_by, value_cause}
 use Rattle.script_text.specs.TrueCauses.{HasOneOf, both_adds, HasForm, HasNoForm, IsStrange, IsTrueOf}
 use Rattle.script_text.proofs.Members.{open_keys, has_keys-object, get-here, get-there, by_key}
 use Rattle.script_text.proofs.GrammarLines.{entry-from}
@@ -82,7 +82,7 @@ in_forms version d form.Region has = inr (inr (inr (inr (inr (inr (by_moves (nat
     by_moves true = inr (inr (inl (opened version d form.Region has)))
     by_moves false = inr (inl (opened version d form.Region has))
 
-is_form : (version : ℕ) (d : Data) → is_some (form_of version d) ≡ true → HasForm version d
+pub is_form : (version : ℕ) (d : Data) → is_some (form_of version d) ≡ true → HasForm version d
 is_form version d some = by_form (form_of version d) refl some
   where
     by_form : (o : Option Form) → form_of version d ≡ o → is_some o ≡ true → HasForm version d
@@ -235,7 +235,11 @@ surplus_true (l ∷ ls) keys d k e = by_test (surplus_true ls keys d k) (is_some
     by_test rest false is among h = rest h
 
 unfit_true : (version : ℕ) (named : Option Form) (d : Data) → HasNoForm d → IsTrueOf d (unfit_cause version named d)
-unfit_true version None d none = none
+unfit_true version None d none = by_array (is_array d) refl
+  where
+    by_array : (b : Bool) → is_array d ≡ b → IsTrueOf d (cond b ArrayLine NoSuchForm)
+    by_array true is = (none, is)
+    by_array false other = none
 unfit_true version (Some f) d none = by_keys (first_missing (keys_of version f) d) refl (first_surplus line_keys (keys_of version f) d) refl
   where
     by_keys : (missing : Option Key) → first_missing (keys_of version f) d ≡ missing → (surplus : Option Key) → first_surplus line_keys (keys_of version f) d ≡ surplus
@@ -391,7 +395,7 @@ true_causes part turn d = by_form (form_of (version_of part) d) refl
 
 -- ---- lines of no form
 
-no_first : (d : Data) → HasNoForm d → first_version d ≡ None
+pub no_first : (d : Data) → HasNoForm d → first_version d ≡ None
 no_first d none = by_first (first_version d) (first_is d)
   where
     by_first : (first : Option ℕ) → FirstIs d first → first ≡ None
@@ -405,7 +409,11 @@ unfit_is None None = tt
 
 strange_is : (unknown : Option (List ℕ)) (version : ℕ) (named : Option Form) (d : Data) → IsStrange (Some (strange_cause unknown version named d))
 strange_is (Some name) version named d = tt
-strange_is None version None d = tt
+strange_is None version None d = by_array (is_array d)
+  where
+    by_array : (b : Bool) → IsStrange (Some (cond b ArrayLine NoSuchForm))
+    by_array true = tt
+    by_array false = tt
 strange_is None version (Some f) d = unfit_is (first_missing (keys_of version f) d) (first_surplus line_keys (keys_of version f) d)
 
 strange_none : (part : Part) (first : Option ℕ) (d : Data) → first ≡ None → IsStrange (Some (no_form_cause part first d))

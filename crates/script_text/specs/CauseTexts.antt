@@ -1,7 +1,7 @@
 -- What a cause says.
 use Rattle.std.specs.Prelude.{ℕ, List, ◌++◌, codes, decimal}
 use Rattle.script_text.specs.declared.causes.Cause.{Cause}
-use Rattle.script_text.specs.declared.causes.Cause.TheVariants.{BlankLine, ByteOrderMark, TooDeep, NotUtf8, NoJsonAt, EndsInString, EndsInValue, NotJson, UnknownKey, MissingKey, SurplusKey, NoSuchForm, WrongValue, WrongRectangle, MissingMask, LaterVersion, NotHere, EndsInsideTurn, NoLine}
+use Rattle.script_text.specs.declared.causes.Cause.TheVariants.{BlankLine, ByteOrderMark, TooDeep, NotUtf8, NoJsonAt, EndsInString, EndsInValue, NotJson, UnknownKey, MissingKey, SurplusKey, ArrayLine, NoSuchForm, WrongValue, WrongRectangle, MissingMask, LaterVersion, NotHere, EndsInsideTurn, NoLine}
 use Rattle.script_text.specs.declared.causes.mistakes.Mistake.{Mistake}
 use Rattle.script_text.specs.declared.causes.mistakes.Mistake.TheVariants.{Comment, SingleQuote, NoNumber, NumberStart, LeadingZero, WrongNumber, BareWord, Control, Escape, HexDigit, HalfPair, TrailingComma, MissingComma, StrayColon, NoValue, BehindValue}
 use Rattle.script_text.specs.declared.causes.keys.Wanted.{Wanted}
@@ -57,6 +57,7 @@ cause_text NotJson = codes "the line must be one JSON value, with brackets that 
 cause_text (UnknownKey name) = codes "the line must have the keys of one form, and no form has the key \"" ++ name ++ codes "\""
 cause_text (MissingKey key) = codes "the line must have the key \"" ++ key_text key ++ codes "\" too"
 cause_text (SurplusKey key) = codes "the line must not have the key \"" ++ key_text key ++ codes "\" beside its others"
+cause_text ArrayLine = codes "the line must be an object, and is an array: each object of a script must have a line of its own"
 cause_text NoSuchForm = codes "the line must be an object with exactly the keys of one form"
 cause_text (WrongValue key wanted) = codes "the key \"" ++ key_text key ++ codes "\" must have " ++ wanted_text wanted
 cause_text (WrongRectangle number size) = codes "the key \"base\" must have " ++ wanted_text (Rectangles size) ++ codes "; array " ++ decimal number ++ codes " is wrong"

@@ -4,14 +4,14 @@ use Rattle.std.specs.List.{list_all, list_any, find, starts_with}
 use Rattle.std.specs.Str.{is_utf8}
 use Rattle.std.specs.Str.Lossy.{utf8_valid_len}
 use Rattle.serde_json.specs.Data.{Data}
-use Rattle.serde_json.specs.Find.{get, as_object}
+use Rattle.serde_json.specs.Find.{get, as_object, as_array}
 use Rattle.nav_types.specs.declared.cells.Rect.{Rect}
 use Rattle.nav_types.specs.declared.cells.Size.{Size}
 use Rattle.class_config.specs.Forms.{is_class_name, keys_of as names_of}
 use Rattle.class_config.specs.Classes.{classes_of}
 use Rattle.posts.specs.declared.posts.Post.{Post}
 use Rattle.script_text.specs.declared.causes.Cause.{Cause}
-use Rattle.script_text.specs.declared.causes.Cause.TheVariants.{BlankLine, ByteOrderMark, TooDeep, NotUtf8, UnknownKey, MissingKey, SurplusKey, NoSuchForm, WrongValue, WrongRectangle, MissingMask, LaterVersion, NotHere, EndsInsideTurn, NoLine}
+use Rattle.script_text.specs.declared.causes.Cause.TheVariants.{BlankLine, ByteOrderMark, TooDeep, NotUtf8, UnknownKey, MissingKey, SurplusKey, ArrayLine, NoSuchForm, WrongValue, WrongRectangle, MissingMask, LaterVersion, NotHere, EndsInsideTurn, NoLine}
 use Rattle.script_text.specs.declared.causes.keys.Key.{Key}
 use Rattle.script_text.specs.declared.causes.keys.Key.TheVariants as key
 use Rattle.script_text.specs.declared.causes.keys.Wanted.{Wanted}
@@ -167,9 +167,17 @@ unfit_by (Some k) surplus = MissingKey k
 unfit_by None (Some k) = SurplusKey k
 unfit_by None None = NoSuchForm
 
+-- the value is an array
+abbrev pub is_array : Data → Bool
+is_array d = is_some (as_array d)
+
+-- a line none of whose keys names a form: an array, or another value
+abbrev pub nameless_cause : Data → Cause
+nameless_cause d = if is_array d then ArrayLine else NoSuchForm
+
 -- a line that does not fit the form that is named: it lacks a key of it, or has one too many
 abbrev pub unfit_cause : ℕ → Option Form → Data → Cause
-unfit_cause version None d = NoSuchForm
+unfit_cause version None d = nameless_cause d
 unfit_cause version (Some f) d = unfit_by (first_missing (keys_of version f) d) (first_surplus line_keys (keys_of version f) d)
 
 -- a line with the keys of no form in any version: it has a key that no form has, or does not fit the form that one names

@@ -1,13 +1,13 @@
 -- What a cause says of the line that it is told of, in the words of the grammar.
-use Rattle.std.specs.Prelude.{◌≡◌, ◌≢◌, ◌⊎◌, ℕ, ⊤, Option, List, [], ◌∷◌, All, nat_le, if◌then◌else◌, Some, None, IsSome, codes}
+use Rattle.std.specs.Prelude.{◌≡◌, ◌≢◌, ◌⊎◌, ℕ, ⊤, Option, List, [], ◌∷◌, All, nat_le, if◌then◌else◌, Some, None, IsSome, IsTrue, codes}
 use Rattle.serde_json.specs.Data.{Data}
 use Rattle.serde_json.specs.Find.{get}
 use Rattle.script_text.specs.declared.causes.Cause.{Cause}
-use Rattle.script_text.specs.declared.causes.Cause.TheVariants.{BlankLine, ByteOrderMark, TooDeep, NotUtf8, NoJsonAt, EndsInString, EndsInValue, NotJson, UnknownKey, MissingKey, SurplusKey, NoSuchForm, WrongValue, WrongRectangle, MissingMask, LaterVersion, NotHere, EndsInsideTurn, NoLine}
+use Rattle.script_text.specs.declared.causes.Cause.TheVariants.{BlankLine, ByteOrderMark, TooDeep, NotUtf8, NoJsonAt, EndsInString, EndsInValue, NotJson, UnknownKey, MissingKey, SurplusKey, ArrayLine, NoSuchForm, WrongValue, WrongRectangle, MissingMask, LaterVersion, NotHere, EndsInsideTurn, NoLine}
 use Rattle.script_text.specs.declared.causes.keys.Key.{Key}
 use Rattle.script_text.specs.Grammar.{IsObject, map_keys, base_keys, end_keys, add_keys, remove_keys, move_keys, path_keys, region_keys}
 use Rattle.script_text.specs.Table.{key_text, line_keys}
-use Rattle.script_text.specs.Causes.{IsWrongIn, IsWrongRectangle}
+use Rattle.script_text.specs.Causes.{IsWrongIn, IsWrongRectangle, is_array}
 
 -- one of these lists of keys is that of the value: it is an object with exactly these keys
 abbrev pub HasOneOf : List (List (List ℕ)) → Data → Type 0
@@ -58,6 +58,7 @@ IsTrueOf d NotJson = ⊥
 IsTrueOf d (UnknownKey name) = HasNoForm d × (((value : Data) × (get name d ≡ Some value)) × All (λ (key : Key). name ≢ key_text key) line_keys)
 IsTrueOf d (MissingKey key) = HasNoForm d × (get (key_text key) d ≡ None)
 IsTrueOf d (SurplusKey key) = HasNoForm d × IsSome (get (key_text key) d)
+IsTrueOf d ArrayLine = HasNoForm d × IsTrue (is_array d)
 IsTrueOf d NoSuchForm = HasNoForm d
 IsTrueOf d (WrongValue key wanted) = IsWrongIn key wanted d
 IsTrueOf d (WrongRectangle number size) = IsWrongRectangle number size d
@@ -72,5 +73,6 @@ abbrev pub IsStrange : Option Cause → Type 0
 IsStrange (Some (UnknownKey name)) = ⊤
 IsStrange (Some (MissingKey key)) = ⊤
 IsStrange (Some (SurplusKey key)) = ⊤
+IsStrange (Some ArrayLine) = ⊤
 IsStrange (Some NoSuchForm) = ⊤
 IsStrange found = ⊥

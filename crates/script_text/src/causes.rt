@@ -54,7 +54,9 @@ pub enum Cause {
     /// The keys are those of no form, in any version. One of them names a form, whose keys are there, and this key is not
     /// among them.
     SurplusKey { key: Key },
-    /// The value is no object, or its keys are those of no form for another reason.
+    /// The line is an array.
+    ArrayLine,
+    /// The value is neither an object nor an array, or its keys are those of no form for another reason.
     NoSuchForm,
     /// The value under this key is not what it must be. Of several, it is the first in the order of the form's keys.
     WrongValue { key: Key, wanted: Wanted },
@@ -113,6 +115,9 @@ impl fmt::Display for Cause {
                     "the line must not have the key \"{key}\" beside its others"
                 )
             }
+            Cause::ArrayLine => f.write_str(
+                "the line must be an object, and is an array: each object of a script must have a line of its own",
+            ),
             Cause::NoSuchForm => f.write_str(
                 "the line must be an object with exactly the keys of one form",
             ),

@@ -11,13 +11,13 @@ ghost use Rattle.script_text.specs.Forms as form;
 ghost use Rattle.script_text.specs.Grammar.{Line, IsLine, IsMapLine, IsBaseLine, IsPostLine, IsEndLine};
 ghost use Rattle.script_text.specs.Script.{Place, bad, bad_line, finish, placed, reading_of, stuck};
 ghost use Rattle.script_text.specs.declared.causes.Cause.{Cause};
-ghost use Rattle.script_text.specs.declared.causes.Cause.TheVariants.{BlankLine, TooDeep, WrongValue};
+ghost use Rattle.script_text.specs.declared.causes.Cause.TheVariants.{ArrayLine, BlankLine, TooDeep, WrongValue};
 ghost use Rattle.script_text.specs.TrueBytes.{IsTrueOfBytes};
 ghost use Rattle.script_text.specs.TrueCauses.{HasNoForm, IsStrange, IsTrueOf};
 ghost use Rattle.script_text.specs.declared.causes.keys.Key.{Key};
 ghost use Rattle.script_text.specs.declared.causes.keys.Wanted.{Wanted};
 ghost use Rattle.script_text.specs.declared.parts.Part.{Part};
-ghost use Rattle.script_text.specs.Causes.{IsWrongIn, cause, end_cause, has_mark, is_blank, is_too_deep, value_cause};
+ghost use Rattle.script_text.specs.Causes.{IsWrongIn, cause, end_cause, has_mark, is_array, is_blank, is_too_deep, value_cause};
 ghost use Rattle.script_text.specs.ReadsBack as back;
 
 /// A law: the form of a map line gives a map exactly where the value is a map line of the grammar that says it.
@@ -70,6 +70,11 @@ pub fn true_causes()
 /// it is of no form for another reason.
 pub fn strange_lines()
     ensures { (part : Part) (turn : ℕ) (d : Data) → HasNoForm d → IsStrange (value_cause part turn d) }
+{}
+
+/// A law: a line is told to be an array exactly where its value is one.
+pub fn array_lines()
+    ensures { (part : Part) (turn : ℕ) (d : Data) → (value_cause part turn d ≡ Some ArrayLine) ↔ IsTrue (is_array d) }
 {}
 
 /// A law: a line is told to be blank exactly where it has no byte but white space.

@@ -98,7 +98,18 @@ pub(crate) fn unfit_cause(version: u8, named: Option<Form>, value: &Value) -> Ca
 {
     match named {
         Some(form) => unfit_to(form.keys(version), value),
-        None => Cause::NoSuchForm,
+        None => nameless_cause(value),
+    }
+}
+
+/// The cause of a line none of whose keys names a form: an array, or another value.
+fn nameless_cause(value: &Value) -> Cause
+    ensures { result ≡ why.nameless_cause (view value.now) }
+{
+    if value.is_array() {
+        Cause::ArrayLine
+    } else {
+        Cause::NoSuchForm
     }
 }
 
