@@ -20,7 +20,7 @@ MOST_CELLS = 20_000  # of larger maps only the status and the bad line are predi
 CALLER = re.compile(rb'\{"caller":([0-9]+),')
 UNREAD = b"the line must be one JSON value, "
 BROKEN = (b"and ends inside a string", b"and ends inside an array or an object",
-          b"with brackets that match, keys in quotes with a colon, and numbers as 0, -1.5 or 2e3")
+          b"with no words but true, false and null, and numbers as 0, -1.5 or 2e3")
 MISTAKE = re.compile(rb"byte ([1-9][0-9]*): ([ -~]+)")
 ALL_CELLS = check.Cells
 

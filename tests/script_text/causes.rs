@@ -203,7 +203,7 @@ fn lines_of_version_3_have_causes(rt: HostRuntime) {
 type Slip = (&'static str, u64, Mistake, &'static str);
 
 /// A line for each mistake, and for some of them a second.
-const SLIPS: [Slip; 33] = [
+const SLIPS: [Slip; 47] = [
     (
         "{\"end\":1} // done\n",
         11,
@@ -307,10 +307,94 @@ const SLIPS: [Slip; 33] = [
         "byte 8: a comma or a colon is missing before this",
     ),
     (
-        "{1:2}\n",
+        "{\"end\":1]\n",
+        9,
+        Mistake::WrongBracket,
+        "byte 9: a bracket or brace must close what was opened last: ] a [, and } a {",
+    ),
+    (
+        "[1}\n",
         3,
+        Mistake::WrongBracket,
+        "byte 3: a bracket or brace must close what was opened last: ] a [, and } a {",
+    ),
+    (
+        "{\"a\":[{\"b\":1]}\n",
+        13,
+        Mistake::WrongBracket,
+        "byte 13: a bracket or brace must close what was opened last: ] a [, and } a {",
+    ),
+    (
+        "{\"a\":\"]\",\"b\":[{\"c\":1}}}\n",
+        22,
+        Mistake::WrongBracket,
+        "byte 22: a bracket or brace must close what was opened last: ] a [, and } a {",
+    ),
+    (
+        "{1:2}\n",
+        2,
+        Mistake::NoKey,
+        "byte 2: a key in double quotes must stand here",
+    ),
+    (
+        "{[1]:2}\n",
+        2,
+        Mistake::NoKey,
+        "byte 2: a key in double quotes must stand here",
+    ),
+    (
+        "{\"caller\":0,true}\n",
+        13,
+        Mistake::NoKey,
+        "byte 13: a key in double quotes must stand here",
+    ),
+    (
+        "{\"a\":[1,2],\"b\":{\"c\":1, -5}}\n",
+        24,
+        Mistake::NoKey,
+        "byte 24: a key in double quotes must stand here",
+    ),
+    (
+        "{\"caller\":0,\"remove\":1,000}\n",
+        24,
+        Mistake::NumberAsKey,
+        "byte 24: a key in double quotes must stand here, and a number must have no commas",
+    ),
+    (
+        "{\"caller\":0,\"remove\":1, 500}\n",
+        25,
+        Mistake::NumberAsKey,
+        "byte 25: a key in double quotes must stand here, and a number must have no commas",
+    ),
+    (
+        "{\"end\"}\n",
+        7,
+        Mistake::NoColon,
+        "byte 7: a colon and a value must stand behind a key",
+    ),
+    (
+        "{\"a\" ,\"b\":1}\n",
+        6,
+        Mistake::NoColon,
+        "byte 6: a colon and a value must stand behind a key",
+    ),
+    (
+        "{\"a\":1,\"b\"]\n",
+        11,
+        Mistake::NoColon,
+        "byte 11: a colon and a value must stand behind a key",
+    ),
+    (
+        "[\"a\":1]\n",
+        5,
         Mistake::StrayColon,
-        "byte 3: a colon must stand behind a key in double quotes",
+        "byte 5: a colon must stand behind a key in double quotes",
+    ),
+    (
+        "{\"a\":\"b\":1}\n",
+        9,
+        Mistake::StrayColon,
+        "byte 9: a colon must stand behind a key in double quotes",
     ),
     (
         "{\"end\":}\n",
@@ -349,10 +433,10 @@ const SLIPS: [Slip; 33] = [
         "byte 9: a number must not have a zero before its other digits",
     ),
     (
-        "{\"caller\":0,\"remove\":1,000}\n",
-        25,
+        "[1,000]\n",
+        5,
         Mistake::LeadingZero,
-        "byte 25: a number must not have a zero before its other digits",
+        "byte 5: a number must not have a zero before its other digits",
     ),
     (
         "{\"end\":1.}\n",
@@ -439,7 +523,7 @@ fn lines_that_are_no_text_are_told_by_their_place(rt: HostRuntime) {
 }
 
 /// Lines without a mistake at a byte that are no JSON values.
-const ENDINGS: [Row; 5] = [
+const ENDINGS: [Row; 11] = [
     (
         "{\"caller\":0,\"path\":\"a\n",
         Cause::EndsInString,
@@ -456,14 +540,44 @@ const ENDINGS: [Row; 5] = [
         "the line must be one JSON value, and ends inside an array or an object",
     ),
     (
-        "{\"end\":1]\n",
-        Cause::NotJson,
-        "the line must be one JSON value, with brackets that match, keys in quotes with a colon, and numbers as 0, -1.5 or 2e3",
+        "{\"end\":1e400}\n",
+        Cause::NumberTooLarge { place: 8 },
+        "byte 8: a number must be within those of 64-bit floats, about 1.8e308",
     ),
     (
-        "{\"end\":1e400}\n",
+        "[\"1e400\",0.1e-400,-1E+309]\n",
+        Cause::NumberTooLarge { place: 19 },
+        "byte 19: a number must be within those of 64-bit floats, about 1.8e308",
+    ),
+    (
+        "[1.7976931348623157e308,1.7976931348623159e308,1e999]\n",
+        Cause::NumberTooLarge { place: 25 },
+        "byte 25: a number must be within those of 64-bit floats, about 1.8e308",
+    ),
+    (
+        "1000000000000000000000000000000000000000000000000000000000000000000000000000000000000000000000000000000000000000000000000000000000000000000000000000000000000000000000000000000000000000000000000000000000000000000000000000000000000000000000000000000000000000000000000000000000000000000000000000000000000000000000\n",
+        Cause::NumberTooLarge { place: 1 },
+        "byte 1: a number must be within those of 64-bit floats, about 1.8e308",
+    ),
+    (
+        "{\"end\":tru}\n",
         Cause::NotJson,
-        "the line must be one JSON value, with brackets that match, keys in quotes with a colon, and numbers as 0, -1.5 or 2e3",
+        "the line must be one JSON value, with no words but true, false and null, and numbers as 0, -1.5 or 2e3",
+    ),
+    (
+        "nulll\n",
+        Cause::NotJson,
+        "the line must be one JSON value, with no words but true, false and null, and numbers as 0, -1.5 or 2e3",
+    ),
+    (
+        "-\n",
+        Cause::NotJson,
+        "the line must be one JSON value, with no words but true, false and null, and numbers as 0, -1.5 or 2e3",
+    ),
+    (
+        "{\"end\":1e400\n",
+        Cause::EndsInValue,
+        "the line must be one JSON value, and ends inside an array or an object",
     ),
 ];
 

@@ -22,7 +22,10 @@ NUMBER = "must have a whole number from 0 to 4294967295"
 BASE = 'the key "base" must have an array of arrays [i0,j0,i1,j1,mask] with i0 <= i1, j0 <= j1 and mask <= 65535, on a map of 12 by 8; array 1 is wrong'
 GOALS = f'the key "goal" must have an object with exactly one key: {forms.goals_in_words()}'
 VERSIONS = f'the key "version" must have a whole number from 1 to {forms.newest()}'
-BROKEN = "the line must be one JSON value, with brackets that match, keys in quotes with a colon, and numbers as 0, -1.5 or 2e3"
+BROKEN = "the line must be one JSON value, with no words but true, false and null, and numbers as 0, -1.5 or 2e3"
+BRACKET = "a bracket or brace must close what was opened last: ] a [, and } a {"
+KEY = "a key in double quotes must stand here"
+LARGE = "a number must be within those of 64-bit floats, about 1.8e308"
 WORDS = "only true, false, null and numbers stand without quotes"
 ZERO = "a number must not have a zero before its other digits"
 BEHIND = "a line has one value, and this stands behind it"
@@ -38,7 +41,7 @@ def lines(*texts):
 # The mistake, the script, the number of the bad line, and the text of its cause.
 MISTAKES = [
     ("NaN for a number", lines(FIRST, '{"end":NaN}'), 2, "byte 8: JSON has no NaN, no Infinity and no None"),
-    ("a number beyond a double", lines(FIRST, '{"caller":0,"add":1e400,"unit":["6","4","1"],"mask":3}'), 2, BROKEN),
+    ("a number beyond a double", lines(FIRST, '{"caller":0,"add":1e400,"unit":["6","4","1"],"mask":3}'), 2, f"byte 19: {LARGE}"),
     ("a hexadecimal number", lines(FIRST, '{"caller":0,"add":0x10,"unit":["6","4","1"],"mask":3}'), 2, f"byte 20: {WORDS}"),
     ("lines that end with a carriage return alone", FIRST+"\r"+END+"\r", 1, f"byte 127: {BEHIND}"),
     ("UTF-16", lines(FIRST, END).encode('utf-16'), 1, "byte 1: the line must be in UTF-8"),
@@ -66,12 +69,17 @@ MISTAKES = [
     ("commas behind the lines", lines(FIRST + ",", END), 1, f"byte 126: {BEHIND}"),
     ("a semicolon behind a line", lines(FIRST, END + ";"), 2, f"byte 10: {WORDS}"),
     ("quotes of a word processor", lines(FIRST, "{\u201cend\u201d:1}"), 2, f"byte 2: {WORDS}"),
-    ("thousands with a comma", lines(FIRST, '{"caller":0,"remove":1,000}', END), 2, f"byte 25: {ZERO}"),
+    ("thousands with a comma", lines(FIRST, '{"caller":0,"remove":1,000}', END), 2, f"byte 24: {KEY}, and a number must have no commas"),
+    ("other thousands with a comma", lines(FIRST, '{"caller":0,"remove":1,500}', END), 2, f"byte 24: {KEY}, and a number must have no commas"),
     ("a number with a leading zero", lines(FIRST, '{"end":01}'), 2, f"byte 9: {ZERO}"),
     ("a number without its last digits", lines(FIRST, '{"end":1.}'), 2, "byte 10: a number must be written as 0, -1.5 or 2e3"),
     ("a version for a number", lines(FIRST, '{"end":1.2.3}'), 2, "byte 11: a number must be written as 0, -1.5 or 2e3"),
     ("two colons", lines(FIRST, '{"end"::1}'), 2, "byte 8: a colon must stand behind a key in double quotes"),
-    ("a bracket that closes a brace", lines(FIRST, '{"caller":0,"remove":1]', END), 2, BROKEN),
+    ("a bracket that closes a brace", lines(FIRST, '{"caller":0,"remove":1]', END), 2, f"byte 23: {BRACKET}"),
+    ("a brace that closes a bracket", lines(FIRST, ADD.replace('"1"]', '"1"}'), END), 2, f"byte 40: {BRACKET}"),
+    ("a number for a key", lines(FIRST, '{1:2}'), 2, f"byte 2: {KEY}"),
+    ("a key without its value", lines(FIRST, '{"end"}'), 2, "byte 7: a colon and a value must stand behind a key"),
+    ("a word that is cut off", lines(FIRST, '{"end":tru}'), 2, BROKEN),
     ("a string that is cut off", lines(FIRST, '{"caller":0,"path":"inf'), 2, "the line must be one JSON value, and ends inside a string"),
     ("a tab in a name", lines(FIRST, PATH.replace("infantry", "in\tfantry"), END), 2, "byte 23: a control character must be written as \\u and four digits, in a string"),
     ("half a surrogate pair", lines(FIRST, PATH.replace("infantry", "\\ud83d"), END), 2, "byte 27: a half of a surrogate pair must stand with its other half, as in \\ud83d\\ude00"),

@@ -15,7 +15,7 @@ use Rattle.script_text.specs.declared.causes.Cause.TheVariants.{BlankLine, ByteO
 use Rattle.script_text.specs.Nesting.{is_shallow}
 use Rattle.script_text.specs.Script.{reading_of}
 use Rattle.script_text.specs.Causes.{is_white, is_blank, has_mark, is_too_deep, text_cause, reading_cause, cause}
-use Rattle.script_text.specs.Mistakes.{broken_cause, at_start}
+use Rattle.script_text.specs.LargeNumbers.{broken_cause}
 use Rattle.script_text.proofs.BrokenLines.{IsBroken, broken-is, text-causes}
 use Rattle.script_text.proofs.ReadWalk.{reading_of-deep}
 use Rattle.script_text.proofs.ShallowTexts.{blank_shallow}
@@ -60,10 +60,10 @@ broken-deep : (found : Cause) → IsBroken found → found ≡ TooDeep → ⊥
 broken-deep found broken e = subst IsBroken e broken
 
 text-blank : (line : List ℕ) → text_cause line ≡ BlankLine → ⊥
-text-blank line = text-causes (λ found. found ≡ BlankLine → ⊥) line (λ deep e. absurd (cc)) (λ shallow text. broken-blank (broken_cause line) (broken-is at_start 0 line)) (λ no_text e. absurd (cc))
+text-blank line = text-causes (λ found. found ≡ BlankLine → ⊥) line (λ deep e. absurd (cc)) (λ shallow text. broken-blank (broken_cause line) (broken-is line)) (λ no_text e. absurd (cc))
 
 text-deep : (line : List ℕ) → text_cause line ≡ TooDeep → is_too_deep line ≡ true
-text-deep line = text-causes (λ found. found ≡ TooDeep → is_too_deep line ≡ true) line (λ deep e. deep) (λ shallow text e. absurd (broken-deep (broken_cause line) (broken-is at_start 0 line) e)) (λ no_text e. absurd (cc))
+text-deep line = text-causes (λ found. found ≡ TooDeep → is_too_deep line ≡ true) line (λ deep e. deep) (λ shallow text e. absurd (broken-deep (broken_cause line) (broken-is line) e)) (λ no_text e. absurd (cc))
 
 deep-first : (deep : Bool) (other : Cause) → deep ≡ true → cond deep TooDeep other ≡ TooDeep
 deep-first true other e = refl

@@ -5,13 +5,14 @@ use Rattle.std.specs.Str.{IsUtf8, is_utf8}
 use Rattle.std.specs.Str.Lossy.{utf8_valid_len}
 use Rattle.std.proofs.lemmas.Str.{IsUtf8-from_is_utf8, is_utf8-from_IsUtf8}
 use Rattle.script_text.specs.declared.causes.Cause.{Cause}
-use Rattle.script_text.specs.declared.causes.Cause.TheVariants.{TooDeep, NotUtf8, NoJsonAt, EndsInString, EndsInValue, NotJson}
+use Rattle.script_text.specs.declared.causes.Cause.TheVariants.{TooDeep, NotUtf8, NoJsonAt, EndsInString, EndsInValue, NumberTooLarge, NotJson}
 use Rattle.script_text.specs.declared.causes.mistakes.Look.{Look}
 use Rattle.script_text.specs.declared.causes.line_states.LineState.{LineState}
 use Rattle.script_text.specs.declared.causes.line_states.LineState.TheVariants.{Outside, InWord, InNumber, InString, InEscape}
 use Rattle.script_text.specs.declared.causes.mistakes.Mistake.{Mistake}
 use Rattle.script_text.specs.Nesting.{is_shallow}
-use Rattle.script_text.specs.Mistakes.{behind, mistake_at, ending_by, ending, told_at, broken_from, broken_cause}
+use Rattle.script_text.specs.Mistakes.{behind, mistake_at, ending_by, ending, told_at, broken_from, mistake_cause, at_start}
+use Rattle.script_text.specs.LargeNumbers.{starts_number, is_too_large, large_from, or_number, broken_cause}
 use Rattle.script_text.specs.Causes.{is_too_deep, text_cause}
 
 -- ---- the code
@@ -47,6 +48,7 @@ abbrev pub IsBroken : Cause → Type 0
 IsBroken (NoJsonAt place mistake) = ⊤
 IsBroken EndsInString = ⊤
 IsBroken EndsInValue = ⊤
+IsBroken (NumberTooLarge place) = ⊤
 IsBroken NotJson = ⊤
 IsBroken found = ⊥
 
@@ -64,13 +66,32 @@ broken-ending look = by_standing look.standing look.depth
     by_standing InString depth = tt
     by_standing (InEscape seen) depth = tt
 
-pub broken-is : (look : Look) (before : ℕ) (bytes : List ℕ) → IsBroken (broken_from look before bytes)
-broken-is look before [] = broken-ending look
-broken-is look before (byte ∷ bytes) = by_mistake (mistake_at look byte) (broken-is (behind look byte) (before + 1) bytes)
+broken-from : (look : Look) (before : ℕ) (bytes : List ℕ) → IsBroken (broken_from look before bytes)
+broken-from look before [] = broken-ending look
+broken-from look before (byte ∷ bytes) = by_mistake (mistake_at look byte) (broken-from (behind look byte) (before + 1) bytes)
   where
     by_mistake : (found : Option Mistake) → IsBroken (broken_from (behind look byte) (before + 1) bytes) → IsBroken (told_at found (before + 1) (broken_from (behind look byte) (before + 1) bytes))
     by_mistake None later = later
     by_mistake (Some mistake) later = tt
+
+large-is : (look : Look) (before : ℕ) (bytes : List ℕ) → IsBroken (large_from look before bytes)
+large-is look before [] = tt
+large-is look before (byte ∷ bytes) = by_test (starts_number look.standing byte && is_too_large (byte ∷ bytes)) (large-is (behind look byte) (before + 1) bytes)
+  where
+    by_test : (b : Bool) → IsBroken (large_from (behind look byte) (before + 1) bytes) → IsBroken (cond b (NumberTooLarge (before + 1)) (large_from (behind look byte) (before + 1) bytes))
+    by_test true later = tt
+    by_test false later = later
+
+or-broken : (line : List ℕ) (found : Cause) → IsBroken found → IsBroken (or_number found line)
+or-broken line NotJson h = large-is at_start 0 line
+or-broken line (NoJsonAt place mistake) h = h
+or-broken line EndsInString h = h
+or-broken line EndsInValue h = h
+or-broken line (NumberTooLarge place) h = h
+or-broken line found h = absurd h
+
+pub broken-is : (line : List ℕ) → IsBroken (broken_cause line)
+broken-is line = or-broken line (mistake_cause line) (broken-from at_start 0 line)
 
 -- what is told of the text of a line: it nests too deep, or is broken or not in UTF-8
 pub text-causes : (P : Cause → Type 0) (line : List ℕ) → (is_too_deep line ≡ true → P TooDeep) → (is_too_deep line ≡ false → is_utf8 line ≡ true → P (broken_cause line))

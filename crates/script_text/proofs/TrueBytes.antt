@@ -1,5 +1,6 @@
 -- What a cause says of the bytes of a line without a reading is true of them.
 use Rattle.std.proofs.Common.{◌≡◌, ◌≢◌, ℕ, zero, suc, ◌+◌, ◌<◌, ◌≤◌, ◌&&◌, ◌||◌, ◌==◌, List, [], ◌∷◌, ◌++◌, length, take, Bool, true, false, not, cond, Option, Some, None, refl, ap, sym, subst, ◌∙◌, arith, nat_lt}
+use Rattle.std.specs.Bool.{⊤}
 use Rattle.std.specs.Str.{IsUtf8, is_utf8, IsValidUpTo}
 use Rattle.std.specs.Str.Lossy.{valid_len_up_to, utf8_valid_len}
 use Rattle.std.proofs.lemmas.Bool.{false≢true, ltb-true, ltb-false}
@@ -9,7 +10,7 @@ use Rattle.std.proofs.lemmas.Str.{IsUtf8-from_is_utf8, is_utf8-from_IsUtf8, utf8
 use Rattle.json.specs.Word.{is_space}
 use Rattle.script_text.specs.declared.parts.Part.{Part}
 use Rattle.script_text.specs.declared.causes.Cause.{Cause}
-use Rattle.script_text.specs.declared.causes.Cause.TheVariants.{BlankLine, ByteOrderMark, NoJsonAt, EndsInString, EndsInValue, NotJson}
+use Rattle.script_text.specs.declared.causes.Cause.TheVariants.{BlankLine, ByteOrderMark, NoJsonAt, EndsInString, EndsInValue, NumberTooLarge, NotJson}
 use Rattle.script_text.specs.declared.causes.mistakes.Look.{Look}
 use Rattle.script_text.specs.declared.causes.line_states.LineState.{LineState}
 use Rattle.script_text.specs.declared.causes.line_states.LineState.TheVariants.{Outside, InWord, InNumber, InString, InEscape}
@@ -18,12 +19,13 @@ use Rattle.script_text.specs.declared.causes.line_states.NumberState.TheVariants
 use Rattle.script_text.specs.declared.causes.line_states.EscapeState.{EscapeState}
 use Rattle.script_text.specs.declared.causes.line_states.EscapeState.TheVariants.{Begun, Code, CodeD, Digits, FirstHalf, Pair, PairBackslash, PairCode, PairCodeD}
 use Rattle.script_text.specs.declared.causes.mistakes.Mistake.{Mistake}
-use Rattle.script_text.specs.declared.causes.mistakes.Mistake.TheVariants.{Comment, SingleQuote, NoNumber, NumberStart, LeadingZero, WrongNumber, BareWord, Control, HexDigit, HalfPair, TrailingComma, MissingComma, StrayColon, NoValue, BehindValue}
+use Rattle.script_text.specs.declared.causes.mistakes.Mistake.TheVariants.{Comment, SingleQuote, NoNumber, NumberStart, LeadingZero, WrongNumber, BareWord, Control, HexDigit, HalfPair, TrailingComma, WrongBracket, MissingComma, NoKey, NumberAsKey, NoColon, StrayColon, NoValue, BehindValue}
 use Rattle.script_text.specs.Nesting.{closes}
 use Rattle.script_text.specs.Script.{reading_of}
 use Rattle.script_text.specs.Causes.{is_blank, has_mark, text_cause, unread_cause, reading_cause, cause}
 use Rattle.script_text.specs.LineStates.{is_digit, is_of_number, is_of_word, is_escape, is_hex, is_d, number_behind, is_number, hex_from, digits_behind, half_behind, escape_behind}
-use Rattle.script_text.specs.Mistakes.{at_start, behind, look_from, mistake_by, mistake_at, mistake_outside, comma_mistake, colon_mistake, closing_mistake, value_mistake, strange_byte, begins_value, ends_value, is_control, wrong_number, number_mistake, wrong_escape, escape_mistake, ending_by, told_at, broken_from, broken_cause}
+use Rattle.script_text.specs.Mistakes.{at_start, behind, look_from, mistake_by, mistake_at, mistake_outside, comma_mistake, colon_mistake, is_mismatch, closing_mistake, key_mistake, value_mistake, innermost, wants_key, ends_key, strange_byte, begins_value, ends_value, is_control, wrong_number, number_mistake, wrong_escape, escape_mistake, ending_by, told_at, broken_from, mistake_cause}
+use Rattle.script_text.specs.LargeNumbers.{starts_number, is_too_large, large_from, or_number}
 use Rattle.script_text.specs.TrueBytes.{HasNoMistake, IsOutside, Says, IsInString, IsTrueOfBytes}
 use Rattle.script_text.proofs.BrokenLines.{text-causes}
 
@@ -31,10 +33,6 @@ use Rattle.script_text.proofs.BrokenLines.{text-causes}
 
 says : (found mistake : Mistake) (look : Look) (byte : ℕ) → Some found ≡ Some mistake → Says found look byte → Says mistake look byte
 says found mistake look byte e is = let same : found ≡ mistake = cc in subst (λ m. Says m look byte) same is
-
-is_false : (b : Bool) → not b ≡ true → b ≡ false
-is_false true h = absurd (cc)
-is_false false h = refl
 
 comma-begins : (byte : ℕ) → byte ≡ 44 → begins_value byte ≡ false
 comma-begins byte e = ap begins_value e
@@ -48,46 +46,72 @@ closing-begins byte e = by_byte (byte == 93) refl (byte == 125) refl e
     by_byte false nay false other h = absurd (cc)
 
 comma-says : (look : Look) (byte : ℕ) (mistake : Mistake) → IsOutside look.standing → is_space byte ≡ false → byte ≡ 44 → comma_mistake look ≡ Some mistake → Says mistake look byte
-comma-says look byte mistake out no_space is e = by_tests (ends_value look.last) refl (look.depth == 0) refl e
+comma-says look byte mistake out no_space is e = by_tests (ends_value look.last) refl (look.depth == 0) refl (ends_key look) refl e
   where
-    by_tests : (a : Bool) → ends_value look.last ≡ a → (b : Bool) → (look.depth == 0) ≡ b → cond (not a) (Some NoValue) (cond b (Some BehindValue) None) ≡ Some mistake → Says mistake look byte
-    by_tests false ends b depth h = says NoValue mistake look byte h (out, comma-begins byte is, ends)
-    by_tests true ends true depth h = says BehindValue mistake look byte h (out, no_space, ends, (Decides-eqb look.depth 0).0 depth)
-    by_tests true ends false depth h = absurd (cc)
+    by_tests : (a : Bool) → ends_value look.last ≡ a → (b : Bool) → (look.depth == 0) ≡ b → (k : Bool) → ends_key look ≡ k
+        → cond (not a) (Some NoValue) (cond b (Some BehindValue) (cond k (Some NoColon) None)) ≡ Some mistake → Says mistake look byte
+    by_tests false ends b depth k key h = says NoValue mistake look byte h (out, comma-begins byte is, ends)
+    by_tests true ends true depth k key h = says BehindValue mistake look byte h (out, no_space, ends, (Decides-eqb look.depth 0).0 depth)
+    by_tests true ends false depth true key h = says NoColon mistake look byte h (out, ap (λ b. b == 44 || closes b) is, key)
+    by_tests true ends false depth false key h = absurd (cc)
 
 colon-says : (look : Look) (byte : ℕ) (mistake : Mistake) → IsOutside look.standing → is_space byte ≡ false → byte ≡ 58 → colon_mistake look ≡ Some mistake → Says mistake look byte
-colon-says look byte mistake out no_space is e = by_tests (ends_value look.last) refl (look.depth == 0) refl (look.last == 34) refl e
+colon-says look byte mistake out no_space is e = by_tests (ends_value look.last) refl (look.depth == 0) refl (ends_key look) refl e
   where
-    by_quote : (c : Bool) → (look.last == 34) ≡ c → cond (not c) (Some StrayColon) None ≡ Some mistake → Says mistake look byte
+    by_quote : (c : Bool) → ends_key look ≡ c → cond (not c) (Some StrayColon) None ≡ Some mistake → Says mistake look byte
     by_quote true quote h = absurd (cc)
     by_quote false quote h = says StrayColon mistake look byte h (out, is, quote)
 
-    by_tests : (a : Bool) → ends_value look.last ≡ a → (b : Bool) → (look.depth == 0) ≡ b → (c : Bool) → (look.last == 34) ≡ c
+    by_tests : (a : Bool) → ends_value look.last ≡ a → (b : Bool) → (look.depth == 0) ≡ b → (c : Bool) → ends_key look ≡ c
         → cond (a && b) (Some BehindValue) (cond (not c) (Some StrayColon) None) ≡ Some mistake → Says mistake look byte
     by_tests true ends true depth c quote h = says BehindValue mistake look byte h (out, no_space, ends, (Decides-eqb look.depth 0).0 depth)
     by_tests true ends false depth c quote h = by_quote c quote h
     by_tests false ends b depth c quote h = by_quote c quote h
 
-closing-says : (look : Look) (byte : ℕ) (mistake : Mistake) → IsOutside look.standing → is_space byte ≡ false → closes byte ≡ true → closing_mistake look ≡ Some mistake → Says mistake look byte
+closing-says : (look : Look) (byte : ℕ) (mistake : Mistake) → IsOutside look.standing → is_space byte ≡ false → closes byte ≡ true → closing_mistake look byte ≡ Some mistake → Says mistake look byte
 closing-says look byte mistake out no_space is e = by_tests (look.depth == 0) refl (ends_value look.last) refl (look.last == 44) refl (look.last == 58) refl e
   where
+    either-true : (a b : Bool) → b ≡ true → (a || b) ≡ true
+    either-true true b h = refl
+    either-true false b h = h
+
+    by_bracket : (w : Bool) → is_mismatch (innermost look) byte ≡ w → cond w (Some WrongBracket) None ≡ Some mistake → Says mistake look byte
+    by_bracket true wrong h = says WrongBracket mistake look byte h (out, wrong)
+    by_bracket false right h = absurd (cc)
+
+    by_key : (k : Bool) → ends_key look ≡ k → cond k (Some NoColon) (cond (is_mismatch (innermost look) byte) (Some WrongBracket) None) ≡ Some mistake → Says mistake look byte
+    by_key true key h = says NoColon mistake look byte h (out, either-true (byte == 44) (closes byte) is, key)
+    by_key false key h = by_bracket (is_mismatch (innermost look) byte) refl h
+
     by_tests : (b : Bool) → (look.depth == 0) ≡ b → (a : Bool) → ends_value look.last ≡ a → (c : Bool) → (look.last == 44) ≡ c → (f : Bool) → (look.last == 58) ≡ f
-        → cond b (Some (cond a BehindValue NoValue)) (cond c (Some TrailingComma) (cond f (Some NoValue) None)) ≡ Some mistake → Says mistake look byte
+        → cond b (Some (cond a BehindValue NoValue)) (cond c (Some TrailingComma) (cond f (Some NoValue) (cond (ends_key look) (Some NoColon)
+        (cond (is_mismatch (innermost look) byte) (Some WrongBracket) None)))) ≡ Some mistake → Says mistake look byte
     by_tests true depth true ends c comma f colon h = says BehindValue mistake look byte h (out, no_space, ends, (Decides-eqb look.depth 0).0 depth)
     by_tests true depth false ends c comma f colon h = says NoValue mistake look byte h (out, closing-begins byte is, ends)
     by_tests false depth a ends true comma f colon h = says TrailingComma mistake look byte h (out, is, (Decides-eqb look.last 44).0 comma)
     by_tests false depth a ends false comma true colon h = says NoValue mistake look byte h (out, closing-begins byte is, ap ends_value ((Decides-eqb look.last 58).0 colon))
-    by_tests false depth a ends false comma false colon h = absurd (cc)
+    by_tests false depth a ends false comma false colon h = by_key (ends_key look) refl h
 
 some-open : (depth : ℕ) → (depth == 0) ≡ false → 0 < depth
 some-open zero h = absurd (cc)
 some-open (suc n) h = omega arith
 
-value-says : (look : Look) (byte : ℕ) (mistake : Mistake) → IsOutside look.standing → is_space byte ≡ false → begins_value byte ≡ true → value_mistake look ≡ Some mistake → Says mistake look byte
+key-says : (look : Look) (byte : ℕ) (mistake : Mistake) → IsOutside look.standing → begins_value byte ≡ true → key_mistake look byte ≡ Some mistake → Says mistake look byte
+key-says look byte mistake out is e = by_tests (byte == 34) refl (wants_key look) refl (is_digit byte) refl (look.last == 44) refl e
+  where
+    by_tests : (q : Bool) → (byte == 34) ≡ q → (k : Bool) → wants_key look ≡ k → (d : Bool) → is_digit byte ≡ d → (c : Bool) → (look.last == 44) ≡ c
+        → cond (q || not k) None (Some (cond (d && c) NumberAsKey NoKey)) ≡ Some mistake → Says mistake look byte
+    by_tests true quote k key d digit c comma h = absurd (cc)
+    by_tests false quote false key d digit c comma h = absurd (cc)
+    by_tests false quote true key true digit true comma h = says NumberAsKey mistake look byte h (out, digit, (Decides-eqb look.last 44).0 comma, key)
+    by_tests false quote true key true digit false comma h = says NoKey mistake look byte h (out, is, quote, key)
+    by_tests false quote true key false digit c comma h = says NoKey mistake look byte h (out, is, quote, key)
+
+value-says : (look : Look) (byte : ℕ) (mistake : Mistake) → IsOutside look.standing → is_space byte ≡ false → begins_value byte ≡ true → value_mistake look byte ≡ Some mistake → Says mistake look byte
 value-says look byte mistake out no_space is e = by_tests (ends_value look.last) refl (look.depth == 0) refl e
   where
-    by_tests : (a : Bool) → ends_value look.last ≡ a → (b : Bool) → (look.depth == 0) ≡ b → cond (not a) None (cond b (Some BehindValue) (Some MissingComma)) ≡ Some mistake → Says mistake look byte
-    by_tests false ends b depth h = absurd (cc)
+    by_tests : (a : Bool) → ends_value look.last ≡ a → (b : Bool) → (look.depth == 0) ≡ b → cond (not a) (key_mistake look byte) (cond b (Some BehindValue) (Some MissingComma)) ≡ Some mistake → Says mistake look byte
+    by_tests false ends b depth h = key-says look byte mistake out is h
     by_tests true ends true depth h = says BehindValue mistake look byte h (out, no_space, ends, (Decides-eqb look.depth 0).0 depth)
     by_tests true ends false depth h = says MissingComma mistake look byte h (out, is, ends, some-open look.depth depth)
 
@@ -108,7 +132,7 @@ outside-says : (look : Look) (byte : ℕ) (mistake : Mistake) → IsOutside look
 outside-says look byte mistake out e = by_tests (is_space byte) refl (byte == 44) refl (byte == 58) refl (closes byte) refl (begins_value byte) refl e
   where
     by_tests : (w : Bool) → is_space byte ≡ w → (c : Bool) → (byte == 44) ≡ c → (f : Bool) → (byte == 58) ≡ f → (s : Bool) → closes byte ≡ s → (v : Bool) → begins_value byte ≡ v
-        → cond w None (cond c (comma_mistake look) (cond f (colon_mistake look) (cond s (closing_mistake look) (cond v (value_mistake look) (Some (strange_byte byte)))))) ≡ Some mistake
+        → cond w None (cond c (comma_mistake look) (cond f (colon_mistake look) (cond s (closing_mistake look byte) (cond v (value_mistake look byte) (Some (strange_byte byte)))))) ≡ Some mistake
         → Says mistake look byte
     by_tests true space c comma f colon s close v value h = absurd (cc)
     by_tests false space true comma f colon s close v value h = comma-says look byte mistake out space ((Decides-eqb byte 44).0 comma) h
@@ -252,12 +276,45 @@ true-from look k (byte ∷ bytes) = by_mistake (true-from (behind look byte) (k 
     by_mistake later None right = one-more look k byte bytes right (broken_from (behind look byte) (k + 1) bytes) later
     by_mistake later (Some mistake) wrong = ([], byte, bytes, refl, omega arith, tt, says-at look byte mistake wrong)
 
-true-broken : (line : List ℕ) (found : Cause) → IsTrueFrom at_start 0 line found → IsTrueOfBytes line found
+-- ---- numbers that are too large
+
+-- what is told of the numbers among bytes, behind what was seen of so many before
+abbrev IsLargeFrom : Look → ℕ → List ℕ → Cause → Type 0
+IsLargeFrom look k bytes (NumberTooLarge place) = (before : List ℕ) × (byte : ℕ) × (after : List ℕ) × (bytes ≡ before ++ byte ∷ after) × (place ≡ k + length before + 1)
+    × (starts_number (look_from look before).standing byte ≡ true) × (is_too_large (byte ∷ after) ≡ true)
+IsLargeFrom look k bytes NotJson = ⊤
+IsLargeFrom look k bytes found = ⊥
+
+large-more : (look : Look) (k byte : ℕ) (bytes : List ℕ) (found : Cause) → IsLargeFrom (behind look byte) (k + 1) bytes found → IsLargeFrom look k (byte ∷ bytes) found
+large-more look k byte bytes (NumberTooLarge place) (before, other, after, parts, placed, starts, large) =
+    (byte ∷ before, other, after, ap (λ l. byte ∷ l) parts, omega (arith, placed), starts, large)
+large-more look k byte bytes NotJson h = tt
+large-more look k byte bytes found h = absurd h
+
+large-from : (look : Look) (k : ℕ) (bytes : List ℕ) → IsLargeFrom look k bytes (large_from look k bytes)
+large-from look k [] = tt
+large-from look k (byte ∷ bytes) = by_tests (large-from (behind look byte) (k + 1) bytes) (starts_number look.standing byte) refl (is_too_large (byte ∷ bytes)) refl
+  where
+    by_tests : IsLargeFrom (behind look byte) (k + 1) bytes (large_from (behind look byte) (k + 1) bytes) → (s : Bool) → starts_number look.standing byte ≡ s
+        → (b : Bool) → is_too_large (byte ∷ bytes) ≡ b → IsLargeFrom look k (byte ∷ bytes) (cond (s && b) (NumberTooLarge (k + 1)) (large_from (behind look byte) (k + 1) bytes))
+    by_tests later true starts true large = ([], byte, bytes, refl, omega arith, starts, large)
+    by_tests later true starts false fits = large-more look k byte bytes (large_from (behind look byte) (k + 1) bytes) later
+    by_tests later false other b large = large-more look k byte bytes (large_from (behind look byte) (k + 1) bytes) later
+
+true-large : (line : List ℕ) (found : Cause) → HasNoMistake at_start line → IsLargeFrom at_start 0 line found → IsTrueOfBytes line found
+true-large line (NumberTooLarge place) none (before, byte, after, parts, placed, starts, large) =
+    (none, record { before = before; byte = byte; after = after; parts = parts; placed = omega (arith, placed); starts = starts; large = large })
+true-large line NotJson none h = none
+true-large line found none h = absurd h
+
+-- ---- what is told of the bytes of a line
+
+true-broken : (line : List ℕ) (found : Cause) → IsTrueFrom at_start 0 line found → IsTrueOfBytes line (or_number found line)
 true-broken line (NoJsonAt place mistake) (before, byte, after, parts, placed, none, wrong) =
     record { before = before; byte = byte; after = after; parts = parts; placed = omega (arith, placed); none_before = none; wrong = wrong }
 true-broken line EndsInString h = h
 true-broken line EndsInValue h = h
-true-broken line NotJson h = h
+true-broken line NotJson h = true-large line (large_from at_start 0 line) h (large-from at_start 0 line)
 true-broken line found h = absurd h
 
 -- ---- lines that are not in UTF-8
@@ -310,7 +367,7 @@ true-unread line = by_tests (is_blank line) refl (has_mark line) refl
     by_tests true is mark e = is
     by_tests false nay true is = is
     by_tests false nay false other =
-        text-causes (IsTrueOfBytes line) line (λ deep. deep) (λ shallow text. true-broken line (broken_cause line) (true-from at_start 0 line))
+        text-causes (IsTrueOfBytes line) line (λ deep. deep) (λ shallow text. true-broken line (mistake_cause line) (true-from at_start 0 line))
         (λ no_text. (utf8_valid_len line, refl, no-text-true line no_text))
 
 pub unread_lines : (part : Part) (turn : ℕ) (line : List ℕ) (found : Cause) → reading_of line ≡ None → cause part turn line ≡ Some found → IsTrueOfBytes line found

@@ -1,9 +1,9 @@
 -- What a cause says.
 use Rattle.std.specs.Prelude.{ℕ, List, ◌++◌, codes, decimal}
 use Rattle.script_text.specs.declared.causes.Cause.{Cause}
-use Rattle.script_text.specs.declared.causes.Cause.TheVariants.{BlankLine, ByteOrderMark, TooDeep, NotUtf8, NoJsonAt, EndsInString, EndsInValue, NotJson, UnknownKey, MissingKey, SurplusKey, ArrayLine, NoSuchForm, WrongValue, WrongRectangle, MissingMask, LaterVersion, NotHere, EndsInsideTurn, NoLine}
+use Rattle.script_text.specs.declared.causes.Cause.TheVariants.{BlankLine, ByteOrderMark, TooDeep, NotUtf8, NoJsonAt, EndsInString, EndsInValue, NumberTooLarge, NotJson, UnknownKey, MissingKey, SurplusKey, ArrayLine, NoSuchForm, WrongValue, WrongRectangle, MissingMask, LaterVersion, NotHere, EndsInsideTurn, NoLine}
 use Rattle.script_text.specs.declared.causes.mistakes.Mistake.{Mistake}
-use Rattle.script_text.specs.declared.causes.mistakes.Mistake.TheVariants.{Comment, SingleQuote, NoNumber, NumberStart, LeadingZero, WrongNumber, BareWord, Control, Escape, HexDigit, HalfPair, TrailingComma, MissingComma, StrayColon, NoValue, BehindValue}
+use Rattle.script_text.specs.declared.causes.mistakes.Mistake.TheVariants.{Comment, SingleQuote, NoNumber, NumberStart, LeadingZero, WrongNumber, BareWord, Control, Escape, HexDigit, HalfPair, TrailingComma, WrongBracket, MissingComma, NoKey, NumberAsKey, NoColon, StrayColon, NoValue, BehindValue}
 use Rattle.script_text.specs.declared.causes.keys.Wanted.{Wanted}
 use Rattle.script_text.specs.declared.causes.keys.Wanted.TheVariants.{Whole, Caller, Turn, Sides, Classes, Rectangles, ClassName, TwoDecimals, ThreeDecimals, SixDecimals, NumberAndDecimal, Goal}
 use Rattle.script_text.specs.Table.{key_text}
@@ -39,6 +39,10 @@ mistake_text Escape = codes "a backslash in a string must stand before one of \"
 mistake_text HexDigit = codes "four hexadecimal digits must stand behind \\u"
 mistake_text HalfPair = codes "a half of a surrogate pair must stand with its other half, as in \\ud83d\\ude00"
 mistake_text TrailingComma = codes "no comma may stand before a closing bracket"
+mistake_text WrongBracket = codes "a bracket or brace must close what was opened last: ] a [, and } a {"
+mistake_text NoKey = codes "a key in double quotes must stand here"
+mistake_text NumberAsKey = codes "a key in double quotes must stand here, and a number must have no commas"
+mistake_text NoColon = codes "a colon and a value must stand behind a key"
 mistake_text MissingComma = codes "a comma or a colon is missing before this"
 mistake_text StrayColon = codes "a colon must stand behind a key in double quotes"
 mistake_text NoValue = codes "a value must stand here"
@@ -53,7 +57,8 @@ cause_text (NotUtf8 place) = codes "byte " ++ decimal place ++ codes ": the line
 cause_text (NoJsonAt place mistake) = codes "byte " ++ decimal place ++ codes ": " ++ mistake_text mistake
 cause_text EndsInString = codes "the line must be one JSON value, and ends inside a string"
 cause_text EndsInValue = codes "the line must be one JSON value, and ends inside an array or an object"
-cause_text NotJson = codes "the line must be one JSON value, with brackets that match, keys in quotes with a colon, and numbers as 0, -1.5 or 2e3"
+cause_text (NumberTooLarge place) = codes "byte " ++ decimal place ++ codes ": a number must be within those of 64-bit floats, about 1.8e308"
+cause_text NotJson = codes "the line must be one JSON value, with no words but true, false and null, and numbers as 0, -1.5 or 2e3"
 cause_text (UnknownKey name) = codes "the line must have the keys of one form, and no form has the key \"" ++ name ++ codes "\""
 cause_text (MissingKey key) = codes "the line must have the key \"" ++ key_text key ++ codes "\" too"
 cause_text (SurplusKey key) = codes "the line must not have the key \"" ++ key_text key ++ codes "\" beside its others"

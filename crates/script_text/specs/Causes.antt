@@ -28,7 +28,7 @@ use Rattle.script_text.specs.Forms.{each, entry_of}
 use Rattle.script_text.specs.Goals.{grown_of, goal_of, wrong_goal}
 use Rattle.script_text.specs.Grammar.{IsEntry}
 use Rattle.script_text.specs.Nesting.{is_shallow}
-use Rattle.script_text.specs.Mistakes.{broken_cause}
+use Rattle.script_text.specs.LargeNumbers.{broken_cause}
 use Rattle.input_lines.specs.Lines.{full_lines, tail_of, first_line}
 use Rattle.script_text.specs.Script.{Place, Ends, at_place, stuck_by, is_empty, reading_of, accept}
 

@@ -9,6 +9,7 @@ pub mod Nesting
 pub mod Reader
 pub mod Pushed
 pub mod Led
+pub mod LargeNumbers
 pub mod LineStates
 pub mod Items
 pub mod Mistakes

@@ -105,6 +105,14 @@ escape_behind PairCodeD byte = escape_if (is_second byte) (Digits 2)
 
 -- ---- lines
 
+-- no string goes on
+abbrev pub is_outside : LineState → Bool
+is_outside Outside = true
+is_outside InWord = true
+is_outside (InNumber seen) = true
+is_outside InString = false
+is_outside (InEscape seen) = false
+
 -- Where a look stands behind one more byte. A quote begins a string, and the next quote outside an escape ends it.
 abbrev pub standing_outside : ℕ → LineState
 standing_outside byte = if byte == 34 then InString

@@ -1,9 +1,10 @@
 -- What a look along a bad line, byte by byte, finds first that no JSON value has.
-use Rattle.std.specs.Prelude.{ℕ, ◌+◌, ◌-◌, ◌&&◌, ◌||◌, ◌==◌, List, [], ◌∷◌, Bool, not, nat_lt, if◌then◌else◌, Option, Some, None}
+use Rattle.std.specs.Prelude.{ℕ, ◌+◌, ◌-◌, ◌&&◌, ◌||◌, ◌==◌, List, [], ◌∷◌, slice_index, slice_set, replicate, Bool, false, not, nat_lt, if◌then◌else◌, Option, Some, None}
 use Rattle.json.specs.Word.{is_space}
 use Rattle.script_text.specs.declared.causes.Cause.{Cause}
 use Rattle.script_text.specs.declared.causes.Cause.TheVariants.{NoJsonAt, EndsInString, EndsInValue, NotJson}
 use Rattle.script_text.specs.declared.causes.mistakes.Look.{Look}
+use Rattle.script_text.specs.declared.causes.mistakes.TheConstants.{TOLD_APART}
 use Rattle.script_text.specs.declared.causes.line_states.LineState.{LineState}
 use Rattle.script_text.specs.declared.causes.line_states.LineState.TheVariants.{Outside, InWord, InNumber, InString, InEscape}
 use Rattle.script_text.specs.declared.causes.line_states.NumberState.{NumberState}
@@ -11,9 +12,9 @@ use Rattle.script_text.specs.declared.causes.line_states.NumberState.TheVariants
 use Rattle.script_text.specs.declared.causes.line_states.EscapeState.{EscapeState}
 use Rattle.script_text.specs.declared.causes.line_states.EscapeState.TheVariants.{Begun, Code, CodeD, Digits, FirstHalf, Pair, PairBackslash, PairCode, PairCodeD}
 use Rattle.script_text.specs.declared.causes.mistakes.Mistake.{Mistake}
-use Rattle.script_text.specs.declared.causes.mistakes.Mistake.TheVariants.{Comment, SingleQuote, NoNumber, NumberStart, LeadingZero, WrongNumber, BareWord, Control, Escape, HexDigit, HalfPair, TrailingComma, MissingComma, StrayColon, NoValue, BehindValue}
+use Rattle.script_text.specs.declared.causes.mistakes.Mistake.TheVariants.{Comment, SingleQuote, NoNumber, NumberStart, LeadingZero, WrongNumber, BareWord, Control, Escape, HexDigit, HalfPair, TrailingComma, WrongBracket, MissingComma, NoKey, NumberAsKey, NoColon, StrayColon, NoValue, BehindValue}
 use Rattle.script_text.specs.Nesting.{opens, closes}
-use Rattle.script_text.specs.LineStates.{is_digit, is_of_number, is_of_word, is_hex, number_behind, is_number, escape_behind, standing_behind}
+use Rattle.script_text.specs.LineStates.{is_digit, is_of_number, is_of_word, is_hex, number_behind, is_number, escape_behind, is_outside, standing_behind}
 
 -- ---- bytes
 
@@ -46,17 +47,36 @@ depth_behind (InNumber seen) depth byte = depth_outside depth byte
 depth_behind InString depth byte = depth
 depth_behind (InEscape seen) depth byte = depth
 
--- what was seen, with one more byte: the last byte is the last that is no white space
+-- the bytes that opened them, the outermost first, behind one more byte
+abbrev pub opened_behind : Look → ℕ → List ℕ
+opened_behind look byte = if is_outside look.standing && opens byte && nat_lt look.depth TOLD_APART then slice_set look.opened look.depth byte else look.opened
+
+-- The byte that opened the array or object that goes on. A space stands for none, and for one that lies too deep in others.
+abbrev pub innermost : Look → ℕ
+innermost look = if look.depth == 0 || nat_lt TOLD_APART look.depth then 32 else slice_index look.opened (look.depth - 1)
+
+-- an object goes on, and a key must stand next: behind a brace or a comma
+abbrev pub wants_key : Look → Bool
+wants_key look = innermost look == 123 && (look.last == 123 || look.last == 44)
+
+-- a key has just ended
+abbrev pub ends_key : Look → Bool
+ends_key look = look.last == 34 && look.key
+
+-- What was seen, with one more byte: the last byte is the last that is no white space, and a string is a key where it began
+-- in the place of one.
 abbrev pub behind : Look → ℕ → Look
 behind look byte = record {
   standing = standing_behind look.standing byte;
   last = if is_space byte then look.last else byte;
   depth = depth_behind look.standing look.depth byte;
+  opened = opened_behind look byte;
+  key = if is_outside look.standing && byte == 34 then wants_key look else look.key;
 }
 
 -- before the first byte
 abbrev pub at_start : Look
-at_start = record { standing = Outside; last = 32; depth = 0 }
+at_start = record { standing = Outside; last = 32; depth = 0; opened = replicate TOLD_APART 32; key = false }
 
 -- what was seen of these bytes
 abbrev pub look_from : Look → List ℕ → Look
@@ -73,20 +93,32 @@ where_true test mistake = if test then Some mistake else None
 
 -- a comma stands behind a value in an array or an object
 abbrev pub comma_mistake : Look → Option Mistake
-comma_mistake look = if not (ends_value look.last) then Some NoValue else where_true (look.depth == 0) BehindValue
+comma_mistake look = if not (ends_value look.last) then Some NoValue
+    else (if look.depth == 0 then Some BehindValue else where_true (ends_key look) NoColon)
 
--- a colon stands behind a string in an object
+-- a colon stands behind a key
 abbrev pub colon_mistake : Look → Option Mistake
-colon_mistake look = if ends_value look.last && look.depth == 0 then Some BehindValue else where_true (not (look.last == 34)) StrayColon
+colon_mistake look = if ends_value look.last && look.depth == 0 then Some BehindValue else where_true (not (ends_key look)) StrayColon
 
--- a bracket or brace closes what was opened, and not behind a comma or a colon
-abbrev pub closing_mistake : Look → Option Mistake
-closing_mistake look = if look.depth == 0 then Some (if ends_value look.last then BehindValue else NoValue)
-    else (if look.last == 44 then Some TrailingComma else where_true (look.last == 58) NoValue)
+-- the byte closes an array that a brace opened, or an object that a bracket opened
+abbrev pub is_mismatch : ℕ → ℕ → Bool
+is_mismatch opened byte = opened == 91 && byte == 125 || opened == 123 && byte == 93
+
+-- a bracket or brace closes what was opened last, and not behind a comma, a colon or a key
+abbrev pub closing_mistake : Look → ℕ → Option Mistake
+closing_mistake look byte = if look.depth == 0 then Some (if ends_value look.last then BehindValue else NoValue)
+    else (if look.last == 44 then Some TrailingComma
+    else (if look.last == 58 then Some NoValue
+    else (if ends_key look then Some NoColon
+    else where_true (is_mismatch (innermost look) byte) WrongBracket)))
+
+-- only a string stands in the place of a key
+abbrev pub key_mistake : Look → ℕ → Option Mistake
+key_mistake look byte = if byte == 34 || not (wants_key look) then None else Some (if is_digit byte && look.last == 44 then NumberAsKey else NoKey)
 
 -- a value or a key begins where none has ended just before
-abbrev pub value_mistake : Look → Option Mistake
-value_mistake look = if not (ends_value look.last) then None else (if look.depth == 0 then Some BehindValue else Some MissingComma)
+abbrev pub value_mistake : Look → ℕ → Option Mistake
+value_mistake look byte = if not (ends_value look.last) then key_mistake look byte else (if look.depth == 0 then Some BehindValue else Some MissingComma)
 
 -- a byte that begins no value, outside strings
 abbrev pub strange_byte : ℕ → Mistake
@@ -101,8 +133,8 @@ abbrev pub mistake_outside : Look → ℕ → Option Mistake
 mistake_outside look byte = if is_space byte then None
     else (if byte == 44 then comma_mistake look
     else (if byte == 58 then colon_mistake look
-    else (if closes byte then closing_mistake look
-    else (if begins_value byte then value_mistake look
+    else (if closes byte then closing_mistake look byte
+    else (if begins_value byte then value_mistake look byte
     else Some (strange_byte byte)))))
 
 -- a byte with which a number can't go on: a digit behind a zero, a word that is no number, or another
@@ -143,7 +175,7 @@ mistake_by (InEscape seen) look byte = escape_mistake seen (escape_behind seen b
 abbrev pub mistake_at : Look → ℕ → Option Mistake
 mistake_at look byte = mistake_by look.standing look byte
 
--- ---- the cause of a line in UTF-8 that is no JSON value
+-- ---- what is told of a line by its bytes
 
 abbrev pub ending_by : LineState → ℕ → Cause
 ending_by Outside depth = if nat_lt 0 depth then EndsInValue else NotJson
@@ -166,6 +198,6 @@ abbrev pub broken_from : Look → ℕ → List ℕ → Cause
 broken_from look before [] = ending look
 broken_from look before (byte ∷ bytes) = told_at (mistake_at look byte) (before + 1) (broken_from (behind look byte) (before + 1) bytes)
 
--- the cause of a line: its first mistake by its place from 1, and where it has none, how it ends
-abbrev pub broken_cause : List ℕ → Cause
-broken_cause line = broken_from at_start 0 line
+-- the first mistake of a line by its place from 1, and where it has none, how it ends
+abbrev pub mistake_cause : List ℕ → Cause
+mistake_cause line = broken_from at_start 0 line

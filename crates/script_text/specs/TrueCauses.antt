@@ -3,7 +3,7 @@ use Rattle.std.specs.Prelude.{◌≡◌, ◌≢◌, ◌⊎◌, ℕ, ⊤, Option,
 use Rattle.serde_json.specs.Data.{Data}
 use Rattle.serde_json.specs.Find.{get}
 use Rattle.script_text.specs.declared.causes.Cause.{Cause}
-use Rattle.script_text.specs.declared.causes.Cause.TheVariants.{BlankLine, ByteOrderMark, TooDeep, NotUtf8, NoJsonAt, EndsInString, EndsInValue, NotJson, UnknownKey, MissingKey, SurplusKey, ArrayLine, NoSuchForm, WrongValue, WrongRectangle, MissingMask, LaterVersion, NotHere, EndsInsideTurn, NoLine}
+use Rattle.script_text.specs.declared.causes.Cause.TheVariants.{BlankLine, ByteOrderMark, TooDeep, NotUtf8, NoJsonAt, EndsInString, EndsInValue, NumberTooLarge, NotJson, UnknownKey, MissingKey, SurplusKey, ArrayLine, NoSuchForm, WrongValue, WrongRectangle, MissingMask, LaterVersion, NotHere, EndsInsideTurn, NoLine}
 use Rattle.script_text.specs.declared.causes.keys.Key.{Key}
 use Rattle.script_text.specs.Grammar.{IsObject, map_keys, base_keys, end_keys, add_keys, remove_keys, move_keys, path_keys, region_keys}
 use Rattle.script_text.specs.Table.{key_text, line_keys}
@@ -54,6 +54,7 @@ IsTrueOf d (NotUtf8 place) = ⊥
 IsTrueOf d (NoJsonAt place mistake) = ⊥
 IsTrueOf d EndsInString = ⊥
 IsTrueOf d EndsInValue = ⊥
+IsTrueOf d (NumberTooLarge place) = ⊥
 IsTrueOf d NotJson = ⊥
 IsTrueOf d (UnknownKey name) = HasNoForm d × (((value : Data) × (get name d ≡ Some value)) × All (λ (key : Key). name ≢ key_text key) line_keys)
 IsTrueOf d (MissingKey key) = HasNoForm d × (get (key_text key) d ≡ None)

@@ -45,6 +45,9 @@ pub enum Cause {
     EndsInString,
     /// The same, and it ends inside an array or an object.
     EndsInValue,
+    /// The line is in UTF-8, no byte of it is a mistake, and the number that begins at this place, from 1, is the first that
+    /// is beyond those of 64-bit floats.
+    NumberTooLarge { place: u64 },
     /// The line is in UTF-8 and no JSON value for another reason.
     NotJson,
     /// The keys are those of no form, in any version, and no form has this one.
@@ -98,8 +101,14 @@ impl fmt::Display for Cause {
             Cause::EndsInValue => f.write_str(
                 "the line must be one JSON value, and ends inside an array or an object",
             ),
+            Cause::NumberTooLarge { place } => {
+                write!(
+                    f,
+                    "byte {place}: a number must be within those of 64-bit floats, about 1.8e308"
+                )
+            }
             Cause::NotJson => f.write_str(
-                "the line must be one JSON value, with brackets that match, keys in quotes with a colon, and numbers as 0, -1.5 or 2e3",
+                "the line must be one JSON value, with no words but true, false and null, and numbers as 0, -1.5 or 2e3",
             ),
             Cause::UnknownKey { key } => {
                 let name = text_of(&key);

@@ -57,6 +57,16 @@ pub(crate) enum EscapeState {
 }
 
 impl LineState {
+    /// Whether no string goes on.
+    pub(crate) fn is_outside(self) -> bool
+        ensures { result ≡ state.is_outside self }
+    {
+        match self {
+            LineState::Outside | LineState::InWord | LineState::InNumber(_) => true,
+            LineState::InString | LineState::InEscape(_) => false,
+        }
+    }
+
     /// Where a look stands behind one more byte.
     pub(crate) fn behind(self, byte: u8) -> LineState
         ensures { result ≡ state.standing_behind self byte }

@@ -1,14 +1,16 @@
 //! A second look along a line that has no reading: the first byte that stands where no JSON value has one.
-ghost use Rattle.std.specs.Prelude.{◌≡◌, ◌≤◌, ◌<◌, ◌+◌, ◌^◌};
+ghost use Rattle.std.specs.Prelude.{◌≡◌, ◌≤◌, ◌<◌, ◌+◌, ◌^◌, length};
 ghost use Rattle.script_text.specs.Causes as why;
 ghost use Rattle.script_text.specs.LineStates as state;
 ghost use Rattle.script_text.specs.Mistakes as slip;
+ghost use Rattle.script_text.specs.LargeNumbers as large;
 
 use crate::causes::line_states::{
     EscapeState, LineState, NumberState, is_digit, is_hex, is_of_number, is_of_word,
 };
 use crate::causes::{Cause, is_white};
 use crate::nesting::{closes, opens};
+use fast_float::Numeral;
 use std::fmt;
 
 /// What is wrong with a byte of a line that is no JSON value.
@@ -38,8 +40,16 @@ pub enum Mistake {
     HalfPair,
     /// A bracket or brace closes behind a comma.
     TrailingComma,
+    /// A bracket closes an object, or a brace an array.
+    WrongBracket,
     /// A value or a key begins behind a value.
     MissingComma,
+    /// A value in the place of a key.
+    NoKey,
+    /// A digit in the place of a key behind a comma, as in `1,000`.
+    NumberAsKey,
+    /// A comma, or what closes an object, stands behind a key.
+    NoColon,
     /// A colon behind what is no key.
     StrayColon,
     /// No value begins where one must.
@@ -85,6 +95,14 @@ impl Mistake {
                 "a half of a surrogate pair must stand with its other half, as in \\ud83d\\ude00"
             }
             Mistake::TrailingComma => "no comma may stand before a closing bracket",
+            Mistake::WrongBracket => {
+                "a bracket or brace must close what was opened last: ] a [, and } a {"
+            }
+            Mistake::NoKey => "a key in double quotes must stand here",
+            Mistake::NumberAsKey => {
+                "a key in double quotes must stand here, and a number must have no commas"
+            }
+            Mistake::NoColon => "a colon and a value must stand behind a key",
             Mistake::MissingComma => "a comma or a colon is missing before this",
             Mistake::StrayColon => "a colon must stand behind a key in double quotes",
             Mistake::NoValue => "a value must stand here",
@@ -92,6 +110,9 @@ impl Mistake {
         }
     }
 }
+
+/// How many arrays and objects in one another a look tells apart: as many as a line may have.
+const TOLD_APART: usize = 8;
 
 /// What a look along a line has seen.
 #[derive(Clone, Copy)]
@@ -101,17 +122,88 @@ pub(crate) struct Look {
     last: u8,
     /// How many arrays and objects are open.
     depth: u64,
+    /// The bytes that opened these, the outermost first.
+    opened: [u8; TOLD_APART],
+    /// Whether the string that began last is a key.
+    key: bool,
 }
 
-/// The cause of a line in UTF-8 that is no JSON value: its first mistake, and where it has none, how it ends.
-pub(crate) fn broken_cause(line: &[u8]) -> Cause
-    ensures { result ≡ slip.broken_cause line.now }
+/// What a look has seen before the first byte.
+fn at_start() -> Look
+    ensures { result ≡ slip.at_start }
 {
-    let mut look = Look {
+    Look {
         standing: LineState::Outside,
         last: b' ',
         depth: 0,
-    };
+        opened: [b' '; TOLD_APART],
+        key: false,
+    }
+}
+
+/// The cause of a line in UTF-8 that is no JSON value: its first mistake, and where it has none, how it ends or its first
+/// number that is too large.
+pub(crate) fn broken_cause(line: &[u8]) -> Cause
+    ensures { result ≡ large.broken_cause line.now }
+{
+    match mistake_cause(line) {
+        Cause::NotJson => number_cause(line),
+        found => found,
+    }
+}
+
+/// The cause of a line that has no mistake and does not end too early: its first number that is too large.
+fn number_cause(line: &[u8]) -> Cause
+    ensures { result ≡ large.number_cause line.now }
+{
+    let mut look = at_start();
+    for place in 0..line.len() {
+        let byte = line[place];
+        if starts_number(look.standing, byte) && is_too_large(&line[place..]) {
+            return Cause::NumberTooLarge {
+                place: place as u64 + 1,
+            };
+        }
+        look = behind(look, byte);
+    }
+    Cause::NotJson
+}
+
+/// Whether a number begins with the byte.
+fn starts_number(standing: LineState, byte: u8) -> bool
+    ensures { result ≡ large.starts_number standing byte }
+{
+    match standing {
+        LineState::Outside => byte == b'-' || is_digit(byte),
+        LineState::InWord | LineState::InNumber(_) | LineState::InString | LineState::InEscape(_) =>
+            false,
+    }
+}
+
+/// Whether the number at the front of the bytes is beyond those of 64-bit floats.
+fn is_too_large(bytes: &[u8]) -> bool
+    requires { 0 < length bytes.now }
+    ensures { result ≡ large.is_too_large bytes.now }
+{
+    if bytes[0] == b'-' {
+        is_past_floats(true, &bytes[1..])
+    } else {
+        is_past_floats(false, bytes)
+    }
+}
+
+/// The same of a number without its sign.
+fn is_past_floats(negative: bool, digits: &[u8]) -> bool
+    ensures { result ≡ large.is_past_floats negative digits.now }
+{
+    !Numeral::scan(digits).to_float::<f64>(negative).is_finite()
+}
+
+/// The first mistake of a line by its place, and where it has none, how it ends.
+fn mistake_cause(line: &[u8]) -> Cause
+    ensures { result ≡ slip.mistake_cause line.now }
+{
+    let mut look = at_start();
     let mut place: u64 = 0;
     for byte in line {
         place += 1;
@@ -149,7 +241,49 @@ fn behind(look: Look, byte: u8) -> Look
         standing: look.standing.behind(byte),
         last: if is_white(byte) { look.last } else { byte },
         depth: depth_behind(look, byte),
+        opened: opened_behind(look, byte),
+        key: if look.standing.is_outside() && byte == b'"' {
+            wants_key(look)
+        } else {
+            look.key
+        },
     }
+}
+
+/// The bytes that opened what is open behind one more byte.
+fn opened_behind(look: Look, byte: u8) -> [u8; TOLD_APART]
+    ensures { result ≡ slip.opened_behind look byte }
+{
+    let mut opened = look.opened;
+    if look.standing.is_outside() && opens(byte) && look.depth < TOLD_APART as u64 {
+        opened[look.depth as usize] = byte;
+    }
+    opened
+}
+
+/// The byte that opened the array or object that goes on. A space where none does, or it lies too deep in others.
+fn innermost(look: Look) -> u8
+    ensures { result ≡ slip.innermost look }
+{
+    if look.depth == 0 || look.depth > TOLD_APART as u64 {
+        b' '
+    } else {
+        look.opened[look.depth as usize - 1]
+    }
+}
+
+/// Whether a key must stand next, in an object.
+fn wants_key(look: Look) -> bool
+    ensures { result ≡ slip.wants_key look }
+{
+    innermost(look) == b'{' && (look.last == b'{' || look.last == b',')
+}
+
+/// Whether a key has just ended.
+fn ends_key(look: Look) -> bool
+    ensures { result ≡ slip.ends_key look }
+{
+    look.last == b'"' && look.key
 }
 
 /// How many arrays and objects are open behind one more byte.
@@ -259,9 +393,9 @@ fn mistake_outside(look: Look, byte: u8) -> Option<Mistake>
     } else if byte == b':' {
         colon_mistake(look)
     } else if closes(byte) {
-        closing_mistake(look)
+        closing_mistake(look, byte)
     } else if begins_value(byte) {
-        value_mistake(look)
+        value_mistake(look, byte)
     } else {
         Some(strange_byte(byte))
     }
@@ -273,8 +407,10 @@ fn comma_mistake(look: Look) -> Option<Mistake>
 {
     if !ends_value(look.last) {
         Some(Mistake::NoValue)
+    } else if look.depth == 0 {
+        Some(Mistake::BehindValue)
     } else {
-        where_true(look.depth == 0, Mistake::BehindValue)
+        where_true(ends_key(look), Mistake::NoColon)
     }
 }
 
@@ -285,13 +421,13 @@ fn colon_mistake(look: Look) -> Option<Mistake>
     if ends_value(look.last) && look.depth == 0 {
         Some(Mistake::BehindValue)
     } else {
-        where_true(look.last != b'"', Mistake::StrayColon)
+        where_true(!ends_key(look), Mistake::StrayColon)
     }
 }
 
 /// What is wrong with a closing bracket or brace.
-fn closing_mistake(look: Look) -> Option<Mistake>
-    ensures { result ≡ slip.closing_mistake look }
+fn closing_mistake(look: Look, byte: u8) -> Option<Mistake>
+    ensures { result ≡ slip.closing_mistake look byte }
 {
     if look.depth == 0 {
         Some(if ends_value(look.last) {
@@ -301,21 +437,45 @@ fn closing_mistake(look: Look) -> Option<Mistake>
         })
     } else if look.last == b',' {
         Some(Mistake::TrailingComma)
+    } else if look.last == b':' {
+        Some(Mistake::NoValue)
+    } else if ends_key(look) {
+        Some(Mistake::NoColon)
     } else {
-        where_true(look.last == b':', Mistake::NoValue)
+        where_true(is_mismatch(innermost(look), byte), Mistake::WrongBracket)
     }
 }
 
+/// Whether a byte that closes does not match the one that opened.
+fn is_mismatch(opened: u8, byte: u8) -> bool
+    ensures { result ≡ slip.is_mismatch opened byte }
+{
+    opened == b'[' && byte == b'}' || opened == b'{' && byte == b']'
+}
+
 /// What is wrong with the first byte of a value or a key.
-fn value_mistake(look: Look) -> Option<Mistake>
-    ensures { result ≡ slip.value_mistake look }
+fn value_mistake(look: Look, byte: u8) -> Option<Mistake>
+    ensures { result ≡ slip.value_mistake look byte }
 {
     if !ends_value(look.last) {
-        None
+        key_mistake(look, byte)
     } else if look.depth == 0 {
         Some(Mistake::BehindValue)
     } else {
         Some(Mistake::MissingComma)
+    }
+}
+
+/// What is wrong with the first byte of a value or a key where one may begin.
+fn key_mistake(look: Look, byte: u8) -> Option<Mistake>
+    ensures { result ≡ slip.key_mistake look byte }
+{
+    if byte == b'"' || !wants_key(look) {
+        None
+    } else if is_digit(byte) && look.last == b',' {
+        Some(Mistake::NumberAsKey)
+    } else {
+        Some(Mistake::NoKey)
     }
 }
 

@@ -1,8 +1,8 @@
 -- No byte so far is a mistake, and as many were counted.
 use Rattle.std.proofs.Common.{◌≡◌, ◌≤◌, drop}
 use Rattle.script_text.specs.Mistakes as slip
-use Rattle.script_text.proofs.causes.mistakes.broken_cause.Given as goal
+use Rattle.script_text.proofs.causes.mistakes.mistake_cause.Given as goal
 
 abbrev pub invariant-loop-byte : goal.invariant-loop-byte
 invariant-loop-byte l = (l.place ≡ l.byte-index) × (l.look.depth ≤ l.byte-index)
-    × (slip.broken_from l.look l.place (drop l.byte-index l.line) ≡ slip.broken_cause l.line)
+    × (slip.broken_from l.look l.place (drop l.byte-index l.line) ≡ slip.mistake_cause l.line)
