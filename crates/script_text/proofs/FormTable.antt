@@ -8,9 +8,7 @@ use Rattle.serde_json.specs.Data.{Data}
 use Rattle.class_config.specs.Forms.{has_keys}
 use Rattle.script_text.specs.declared.table.Form.{Form}
 use Rattle.script_text.specs.declared.table.Form.TheVariants as form
-use Rattle.script_text.specs.declared.causes.keys.Key.{Key}
-use Rattle.script_text.specs.Table.{key_text, forms, keys_by, keys_of, stands_in, texts_of, has_form, form_of}
-use Rattle.script_text.specs.inner.Plain.{is_plain}
+use Rattle.script_text.specs.Table.{key_text, forms, keys_by, stands_in, texts_of, has_form, form_of}
 use Rattle.script_text.proofs.Members.{is_other, are_distinct, open_keys, has_keys-other}
 use Rattle.script_text.proofs.StrangeKeys.{found-passes}
 
@@ -105,17 +103,6 @@ all_apart false = refl
 
 pub texts_distinct : (version : ℕ) (f : Form) → are_distinct (texts_of version f) ≡ true
 texts_distinct version f = each (λ g. are_distinct (texts_by (nat_le 2 version) g)) f (all_distinct (nat_le 2 version))
-
--- no key needs an escape in a string
-abbrev pub is_plain_key : Key → Bool
-is_plain_key key = list_all is_plain (key_text key)
-
-all_plain : (masks : Bool) → list_all (λ f. list_all is_plain_key (keys_by masks f)) forms ≡ true
-all_plain true = refl
-all_plain false = refl
-
-pub plain_keys : (version : ℕ) (f : Form) → list_all is_plain_key (keys_of version f) ≡ true
-plain_keys version f = each (λ g. list_all is_plain_key (keys_by (nat_le 2 version) g)) f (all_plain (nat_le 2 version))
 
 apart : (masks : Bool) (f g : Form) → is_apart masks f g ≡ true
 apart masks f g = each (is_apart masks f) g (each (λ h. list_all (is_apart masks h) forms) f (all_apart masks))

@@ -1,26 +1,15 @@
 -- The canonical text of a line, key by key.
-use Rattle.std.proofs.Common.{◌≡◌, ℕ, zero, suc, ◌+◌, ◌≤◌, ◌<◌, List, [], ◌∷◌, ◌++◌, length, map, drop, get_or, Bool, true, refl, ap, sym, ◌∙◌, arith, inl, inr, min}
+use Rattle.std.proofs.Common.{◌≡◌, ℕ, ◌+◌, ◌≤◌, ◌<◌, List, [], ◌∷◌, ◌++◌, length, map, drop, Bool, refl, ap, sym, ◌∙◌, arith, inl, inr, min}
 use Rattle.std.specs.Prelude.{zip}
-use Rattle.std.specs.List.{list_all}
-use Rattle.std.proofs.lemmas.Bool.{and_parts}
 use Rattle.std.proofs.lemmas.Bool.Decides.{leb_tells}
-use Rattle.std.proofs.lemmas.List.{drop_all, drop_more}
+use Rattle.std.proofs.lemmas.List.{drop_all}
 use Rattle.serde_json.specs.Data.{Members, no_members}
 use Rattle.serde_json.specs.Written.{members_text}
 use Rattle.script_text.specs.declared.canon.form_lines.LineValue.{LineValue}
 use Rattle.script_text.specs.declared.causes.keys.Key.{Key}
-use Rattle.script_text.specs.declared.table.Form.{Form}
 use Rattle.script_text.specs.Canon.{in_order}
-use Rattle.script_text.specs.Table.{key_text, keys_of}
+use Rattle.script_text.specs.Table.{key_text}
 use Rattle.script_text.specs.inner.LineValues.{AreLineValues, value_json}
-use Rattle.script_text.proofs.FormTable.{is_plain_key, plain_keys}
-
--- ---- no key needs an escape
-
-plain_at : (keys : List Key) (i : ℕ) (key : Key) (rest : List Key) → list_all is_plain_key keys ≡ true → drop i keys ≡ key ∷ rest → is_plain_key key ≡ true
-plain_at keys zero key rest h e = (and_parts (is_plain_key key) (list_all is_plain_key rest) (ap (list_all is_plain_key) (sym e) ∙ h)).0
-plain_at [] (suc i) key rest h e = absurd (cc)
-plain_at (k ∷ keys) (suc i) key rest h e = plain_at keys i key rest (and_parts (is_plain_key k) (list_all is_plain_key keys) h).1 e
 
 -- ---- the members of an object
 
@@ -53,9 +42,3 @@ pub line-ended : (keys : List Key) (values : List LineValue) (n end : ℕ) (late
     → closed ≡ now ++ 125 ∷ [] → now ++ members_text later (members_of (drop n keys) (drop n values)) ≡ all → closed ≡ all
 line-ended keys values n end later now closed all past is last so_far =
     last ∙ ap (λ (ms : Members). now ++ members_text later ms) (sym (members-ended keys values n end past is).0) ∙ so_far
-
--- a key of a form, by its place
-pub plain-key : (version : ℕ) (f : Form) (keys : List Key) (i : ℕ) (d : Key) → keys ≡ keys_of version f → i < length keys
-    → is_plain_key (get_or keys i d) ≡ true
-plain-key version f keys i d are low =
-    plain_at keys i (get_or keys i d) (drop (i + 1) keys) (ap (list_all is_plain_key) are ∙ plain_keys version f) (drop_more keys i d low)
