@@ -3,10 +3,10 @@ use Rattle.std.proofs.Common.{ℕ, suc, ◌≡◌, ◌<◌, ◌≤◌, ◌+◌, 
 use Rattle.std.specs.List.{remove}
 use Rattle.std.specs.Prelude.{slice_index}
 use Rattle.std.proofs.lemmas.Bool.{cases_lt}
-use Rattle.std.proofs.lemmas.List.{get_or_push, get_or_append_left, get_or-map, get_or-take, length-map, length-take, map-append, take-append-drop}
+use Rattle.std.proofs.lemmas.List.{append_assoc, drop-take, get_or_push, get_or_append_left, get_or-map, get_or-take, length-drop, length-map, length-take, length-take-le, map-append, take_at, take-append-drop, take-take}
 use Rattle.std.proofs.lemmas.List.Edits.{get_or-remove_below, get_or-remove_above, length-remove}
 use Rattle.nav_types.specs.declared.cells.Cell.{Cell}
-use Rattle.chunk_regions.specs.inner.Joining.{AreBounded, AreGrown, number_after}
+use Rattle.chunk_regions.specs.inner.Joining.{AreGrown, number_after}
 use Rattle.chunk_regions.proofs.GroupLemmas.{AreBounded-begin, AreBounded-follow, AreBounded-join, after_above, after_below, after_same}
 
 -- regions below the higher of two keep their numbers
@@ -32,6 +32,32 @@ rest_renumbered a b from regions within low =
     ap (λ (ns : List ℕ). ns ++ map (number_after a b) (drop from regions)) (sym stay)
     ∙ sym (map-append (number_after a b) (take from regions) (drop from regions))
     ∙ ap (λ (ns : List ℕ). map (number_after a b) ns) (take-append-drop from regions)
+
+-- the same for the numbers before a place, whatever stands behind them
+pub part_renumbered : (a b from end : ℕ) (regions new rest : List ℕ) → from ≤ end → end ≤ length regions
+    → new ≡ map (number_after a b) (take (end - from) (drop from regions))
+    → ((k : ℕ) → k < from → slice_index regions k < b)
+    → take end (take from regions ++ (new ++ rest)) ≡ map (number_after a b) (take end regions)
+part_renumbered a b from end regions new rest order within made low =
+    let f : ℕ → ℕ = number_after a b in
+    let part : List ℕ = take end regions in
+    let front : List ℕ = take from regions in
+    let there : from + (end - from) ≡ end = omega arith in
+    let first : take from part ≡ front = take-take from end regions order in
+    let back : drop from part ≡ take (end - from) (drop from regions) =
+    ap (λ n. drop from (take n regions)) (sym there) ∙ drop-take from (end - from) regions in
+    let short : length front ≡ from = length-take-le from regions (omega arith) in
+    let piece : length (take (end - from) (drop from regions)) ≡ end - from =
+    length-take-le (end - from) (drop from regions) (omega (arith, length-drop from regions)) in
+    let many : length new ≡ end - from = ap (λ (xs : List ℕ). length xs) made ∙ length-map (take (end - from) (drop from regions)) f ∙ piece in
+    let whole : length (front ++ new) ≡ end = omega (arith, length-append front new, short, many) in
+    let long : length part ≡ end = length-take-le end regions within in
+    ap (λ (xs : List ℕ). take end xs) (sym (append_assoc front new rest))
+    ∙ take_at (front ++ new) rest end whole
+    ∙ ap (λ (xs : List ℕ). front ++ xs) (made ∙ ap (λ (xs : List ℕ). map f xs) (sym back))
+    ∙ ap (λ (xs : List ℕ). xs ++ map f (drop from part)) (sym first)
+    ∙ rest_renumbered a b from part (omega arith)
+    (λ k less. let same = get_or-take end regions k 0 (omega arith) in let was = low k less in omega arith)
 
 -- no spans
 pub AreGrown-none : AreGrown [] [] []

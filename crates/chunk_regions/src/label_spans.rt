@@ -1,5 +1,5 @@
 //! The labelling of a chunk: its spans in row order, and regions renumbered where two of them meet.
-ghost use Rattle.std.specs.Prelude.{ℕ, Bool, ◌≡◌, ◌+◌, ◌-◌, ◌*◌, ◌/◌, ◌<◌, ◌≤◌, [], ◌∷◌, ◌++◌, length, map, remove, OnOk, IfOk, Some, slice_get, slice_index};
+ghost use Rattle.std.specs.Prelude.{ℕ, Bool, ◌≡◌, ◌+◌, ◌-◌, ◌*◌, ◌/◌, ◌<◌, ◌≤◌, [], ◌∷◌, ◌++◌, length, map, remove, take, OnOk, IfOk, Some, slice_get, slice_index};
 ghost use Rattle.nav_types.specs.declared.cells.Cell.{Cell};
 ghost use Rattle.nav_types.specs.declared.cells.Chunk.{Chunk};
 ghost use Rattle.nav_types.specs.declared.limits.TheConstants.{CHUNK_SIDE, CHUNK_CELLS, MAX_CHUNKS_ALONG};
@@ -30,7 +30,8 @@ pub struct Numbered {
     pub firsts: Vec<Cell>,
 }
 
-/// The regions of the spans so far, and of each region in order the first cell and the place of the first span.
+/// The regions of the spans so far, with room for those of the others, and of each region in order the first cell and the
+/// place of the first span.
 #[derive(Drop)]
 struct Growing {
     regions: Vec<u16>,
@@ -61,43 +62,60 @@ fn renumber(regions: &mut [u16], a: u16, b: u16)
     }
 }
 
-/// Makes one region of two, whose first cell is that of the one with the lower number `a`.
+/// Does so with the spans from one place on to before another, where those before have lower numbers.
+#[inline(always)]
+fn renumber_part(regions: &mut [u16], from: usize, end: usize, a: u16, b: u16)
+    requires order { from ≤ end }
+    requires within { end ≤ length regions.old }
+    requires lower { (k : ℕ) → k < from → slice_index regions.old k < b }
+    ensures stays { length regions.new ≡ length regions.old }
+    ensures part { take end regions.new ≡ map (number_after a b) (take end regions.old) }
+{
+    renumber(&mut regions[from..end], a, b);
+}
+
+/// Makes one region of two, whose first cell is that of the one with the lower number `a`, where the spans before `end` are
+/// numbered.
 #[inline(never)]
-fn unite(all: &mut Growing, a: u16, b: u16)
+fn unite(all: &mut Growing, a: u16, b: u16, end: usize)
     requires order { a < b }
     requires within { b ≤ length all.old.firsts.items }
-    requires grown { AreGrown all.old.regions.items all.old.firsts.items all.old.places.items }
-    ensures regions { all.new.regions.items ≡ map (number_after a b) all.old.regions.items }
+    requires end { end ≤ length all.old.regions.items }
+    requires grown { AreGrown (take end all.old.regions.items) all.old.firsts.items all.old.places.items }
+    ensures length { length all.new.regions.items ≡ length all.old.regions.items }
+    ensures regions { take end all.new.regions.items ≡ map (number_after a b) (take end all.old.regions.items) }
     ensures firsts { all.new.firsts.items ≡ remove all.old.firsts.items (b - 1) }
     ensures places { all.new.places.items ≡ remove all.old.places.items (b - 1) }
 {
     let place = b as usize - 1;
     // the spans before its first one are of regions with lower numbers, which stay
     let from = all.places[place] as usize;
-    renumber(&mut all.regions[from..], a, b);
+    renumber_part(&mut all.regions, from, end, a, b);
     all.firsts.remove(place);
     all.places.remove(place);
 }
 
-/// Makes one region of those of two spans that overlap.
+/// Makes one region of those of two spans that overlap, of which the north one is the newest.
 #[inline(always)]
 fn join(all: &mut Growing, south: usize, north: usize)
-    requires south { south < length all.old.regions.items }
+    requires south { south < north }
     requires north { north < length all.old.regions.items }
-    requires grown { AreGrown all.old.regions.items all.old.firsts.items all.old.places.items }
+    requires grown { AreGrown (take (north + 1) all.old.regions.items) all.old.firsts.items all.old.places.items }
     ensures length { length all.new.regions.items ≡ length all.old.regions.items }
-    ensures grown { AreGrown all.new.regions.items all.new.firsts.items all.new.places.items }
-    ensures kept { KeepsOne all.old.regions.items all.new.regions.items }
-    ensures met { slice_index all.new.regions.items south ≡ slice_index all.new.regions.items north }
+    ensures grown { AreGrown (take (north + 1) all.new.regions.items) all.new.firsts.items all.new.places.items }
+    ensures kept { KeepsOne (take (north + 1) all.old.regions.items) (take (north + 1) all.new.regions.items) }
+    ensures met { slice_index (take (north + 1) all.new.regions.items) south
+        ≡ slice_index (take (north + 1) all.new.regions.items) north }
     ensures groups { (chunk : Chunk) (runs : Runs) (s n : Place) → Overlap runs s n → s.at ≡ south → n.at ≡ north
-        → KeepsGroups chunk runs all.old.regions.items all.old.firsts.items all.new.regions.items all.new.firsts.items }
+        → KeepsGroups chunk runs (take (north + 1) all.old.regions.items) all.old.firsts.items
+        (take (north + 1) all.new.regions.items) all.new.firsts.items }
 {
     let a = all.regions[south];
     let b = all.regions[north];
     if a < b {
-        unite(all, a, b);
+        unite(all, a, b, north + 1);
     } else if b < a {
-        unite(all, b, a);
+        unite(all, b, a, north + 1);
     }
 }
 
@@ -108,16 +126,16 @@ fn join_rest(rows: &RowSpans, all: &mut Growing, place: Place, span: Span, from:
     requires span { slice_get rows.now.spans place.at ≡ Some span }
     requires from { slice_index rows.now.starts (place.row - 1) ≤ from }
     requires end { end ≡ slice_index rows.now.starts place.row }
-    requires next { length all.old.regions.items ≡ place.at + 1 }
-    requires grown { AreGrown all.old.regions.items all.old.firsts.items all.old.places.items }
+    requires room { place.at < length all.old.regions.items }
+    requires grown { AreGrown (take (place.at + 1) all.old.regions.items) all.old.firsts.items all.old.places.items }
     requires reach { Reach rows.now span.first from end }
-    requires met { MeetsTo rows.now all.old.regions.items place from }
+    requires met { MeetsTo rows.now (take (place.at + 1) all.old.regions.items) place from }
     ensures length { length all.new.regions.items ≡ length all.old.regions.items }
-    ensures grown { AreGrown all.new.regions.items all.new.firsts.items all.new.places.items }
-    ensures kept { KeepsOne all.old.regions.items all.new.regions.items }
-    ensures met { MeetsTo rows.now all.new.regions.items place end }
-    ensures groups { (chunk : Chunk) → KeepsGroups chunk rows.now all.old.regions.items all.old.firsts.items
-        all.new.regions.items all.new.firsts.items }
+    ensures grown { AreGrown (take (place.at + 1) all.new.regions.items) all.new.firsts.items all.new.places.items }
+    ensures kept { KeepsOne (take (place.at + 1) all.old.regions.items) (take (place.at + 1) all.new.regions.items) }
+    ensures met { MeetsTo rows.now (take (place.at + 1) all.new.regions.items) place end }
+    ensures groups { (chunk : Chunk) → KeepsGroups chunk rows.now (take (place.at + 1) all.old.regions.items)
+        all.old.firsts.items (take (place.at + 1) all.new.regions.items) all.new.firsts.items }
 {
     for south in from..end {
         // the spans of a row rise, so none from here on overlaps
@@ -136,8 +154,10 @@ fn begin(all: &mut Growing, chunk: Chunk, place: Place, span: Span) -> Result<()
     requires here { place.row < CHUNK_SIDE }
     requires few { length all.old.firsts.items < CHUNK_CELLS / 2 }
     requires at { place.at < CHUNK_CELLS / 2 }
-    ensures regions { OnOk result (all.new.regions.items
-        ≡ all.old.regions.items ++ (length all.old.firsts.items + 1) ∷ []) }
+    requires room { place.at < length all.old.regions.items }
+    ensures length { length all.new.regions.items ≡ length all.old.regions.items }
+    ensures regions { OnOk result (take (place.at + 1) all.new.regions.items
+        ≡ take place.at all.old.regions.items ++ (length all.old.firsts.items + 1) ∷ []) }
     ensures firsts { OnOk result (all.new.firsts.items
         ≡ all.old.firsts.items ++ cell_at (CHUNK_SIDE * chunk.ci + span.first) (CHUNK_SIDE * chunk.cj + place.row) ∷ []) }
     ensures places { OnOk result (all.new.places.items ≡ all.old.places.items ++ place.at ∷ []) }
@@ -147,7 +167,7 @@ fn begin(all: &mut Growing, chunk: Chunk, place: Place, span: Span) -> Result<()
         chunk.cj * CHUNK_SIDE + place.row,
     ))?;
     all.places.push(place.at as u16)?;
-    all.regions.push(all.firsts.len() as u16)?;
+    all.regions[place.at] = all.firsts.len() as u16;
     Ok(())
 }
 
@@ -169,14 +189,15 @@ fn number_span(
     requires end { end ≡ slice_index rows.now.starts place.row }
     requires reach { (span : Span) → slice_get rows.now.spans place.at ≡ Some span → Reach rows.now span.first south end }
     requires passed { (s : Place) → Overlap rows.now s place → south ≤ s.at }
-    requires next { length all.old.regions.items ≡ place.at }
-    requires grown { AreGrown all.old.regions.items all.old.firsts.items all.old.places.items }
-    requires united { AreUnited rows.now all.old.regions.items place.at }
-    ensures length { OnOk result (length all.new.regions.items ≡ place.at + 1) }
-    ensures grown { OnOk result (AreGrown all.new.regions.items all.new.firsts.items all.new.places.items) }
-    ensures united { OnOk result (AreUnited rows.now all.new.regions.items (place.at + 1)) }
-    ensures groups { OnOk result (KeepsGroups chunk rows.now all.old.regions.items all.old.firsts.items
-        all.new.regions.items all.new.firsts.items) }
+    requires room { place.at < length all.old.regions.items }
+    requires grown { AreGrown (take place.at all.old.regions.items) all.old.firsts.items all.old.places.items }
+    requires united { AreUnited rows.now (take place.at all.old.regions.items) place.at }
+    ensures length { length all.new.regions.items ≡ length all.old.regions.items }
+    ensures grown { OnOk result (AreGrown (take (place.at + 1) all.new.regions.items) all.new.firsts.items
+        all.new.places.items) }
+    ensures united { OnOk result (AreUnited rows.now (take (place.at + 1) all.new.regions.items) (place.at + 1)) }
+    ensures groups { OnOk result (KeepsGroups chunk rows.now (take place.at all.old.regions.items) all.old.firsts.items
+        (take (place.at + 1) all.new.regions.items) all.new.firsts.items) }
 {
     let span = rows.span(place.at);
     if south == end || span.last < rows.span(south).first {
@@ -184,7 +205,7 @@ fn number_span(
         return Ok(());
     }
     let region = all.regions[south];
-    all.regions.push(region)?;
+    all.regions[place.at] = region;
     join_rest(rows, all, place, span, south + 1, end);
     Ok(())
 }
@@ -224,15 +245,16 @@ fn number_row(
     requires row { chunk.cj < MAX_CHUNKS_ALONG }
     requires south { south ≡ slice_index rows.now.starts (row - 1) }
     requires start { start ≡ slice_index rows.now.starts row }
-    requires next { length all.old.regions.items ≡ slice_index rows.now.starts row }
-    requires grown { AreGrown all.old.regions.items all.old.firsts.items all.old.places.items }
-    requires united { AreUnited rows.now all.old.regions.items (slice_index rows.now.starts row) }
+    requires room { length all.old.regions.items ≡ length rows.now.spans }
+    requires grown { AreGrown (take start all.old.regions.items) all.old.firsts.items all.old.places.items }
+    requires united { AreUnited rows.now (take start all.old.regions.items) start }
     ensures end { IfOk result (λ end. end ≡ slice_index rows.now.starts (row + 1)) }
-    ensures length { OnOk result (length all.new.regions.items ≡ slice_index rows.now.starts (row + 1)) }
-    ensures grown { OnOk result (AreGrown all.new.regions.items all.new.firsts.items all.new.places.items) }
-    ensures united { OnOk result (AreUnited rows.now all.new.regions.items (slice_index rows.now.starts (row + 1))) }
-    ensures groups { OnOk result (KeepsGroups chunk rows.now all.old.regions.items all.old.firsts.items
-        all.new.regions.items all.new.firsts.items) }
+    ensures length { length all.new.regions.items ≡ length all.old.regions.items }
+    ensures grown { IfOk result (λ end. AreGrown (take end all.new.regions.items) all.new.firsts.items
+        all.new.places.items) }
+    ensures united { IfOk result (λ end. AreUnited rows.now (take end all.new.regions.items) end) }
+    ensures groups { IfOk result (λ end. KeepsGroups chunk rows.now (take start all.old.regions.items)
+        all.old.firsts.items (take end all.new.regions.items) all.new.firsts.items) }
 {
     let end = rows.start(row + 1) as usize;
     let mut reached = south;
@@ -254,7 +276,7 @@ pub fn number_all(alloc: Global, chunk: Chunk, rows: &RowSpans) -> Result<Number
         → IsNumbered passes (region_of chunk rows.now all.regions.items) all.firsts.items) }
 {
     let mut all = Growing {
-        regions: Vec::with_capacity(alloc, rows.len())?,
+        regions: vec![in alloc; 0; rows.len()]?,
         firsts: Vec::with_capacity(alloc, FEW_REGIONS)?,
         places: Vec::with_capacity(alloc, FEW_REGIONS)?,
     };

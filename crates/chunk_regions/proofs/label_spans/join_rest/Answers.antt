@@ -1,6 +1,7 @@
-use Rattle.std.proofs.Common.{◌≡◌, ◌-◌, ◌∙◌, inl, inr, ap, refl, arith}
+use Rattle.std.proofs.Common.{ℕ, ◌≡◌, ◌+◌, ◌-◌, ◌∙◌, List, length, take, inl, inr, ap, refl, arith}
 use Rattle.std.specs.Prelude.{slice_index}
 use Rattle.std.proofs.lemmas.Bool.{cases_lt}
+use Rattle.std.proofs.lemmas.List.{length-take-le}
 use Rattle.chunk_regions.specs.declared.label_spans.Place.{Place}
 use Rattle.chunk_regions.proofs.GroupLemmas.{overlap_from, overlap_order, overlaps_before}
 use Rattle.chunk_regions.proofs.label_spans.join_rest.Goals as goal
@@ -21,7 +22,7 @@ loop-south-preserved c =
     let place = c.args.place in
     let south = c.loop-south.south in
     let same_length = kept.same_length in
-    let next = c.requires.next in
+    let room = c.requires.room in
     let low = c.loop-south.auto.south in
     let below = c.loop-south-test.true in
     let from = c.requires.from in
@@ -31,6 +32,10 @@ loop-south-preserved c =
     let o = overlap_from runs c.span.ensures.are place south c.span.result c.args.span c.requires.place c.span.ensures.value c.requires.span
     (omega arith) (omega arith) (omega arith) (c.requires.reach south c.span.result low below c.span.ensures.value) in
     let before : Place = record { row = place.row - 1; at = south } in
+    let n : ℕ = place.at + 1 in
+    let all : List ℕ = c.loop-south.all.regions.items in
+    let whole : length (take n all) ≡ n = length-take-le n all (omega arith) in
+    let first : length (take n c.args.all.now.regions.items) ≡ n = length-take-le n c.args.all.now.regions.items (omega arith) in
     record {
       same_length = c.join.ensures.length ∙ same_length;
       grown = c.join.ensures.grown;
@@ -41,7 +46,7 @@ loop-south-preserved c =
             c.join.ensures.kept s.at place.at (omega arith) (omega arith) (kept.met s over less)
         | inr more ↦
             let same : s.at ≡ south = omega arith in
-            ap (λ k. slice_index c.join.new.all.regions.items k) same ∙ c.join.ensures.met
+            ap (λ k. slice_index (take n c.join.new.all.regions.items) k) same ∙ c.join.ensures.met
       ];
       groups = λ chunk passes cut g. c.join.ensures.groups chunk runs before place o refl refl passes cut (kept.groups chunk passes cut g);
     }

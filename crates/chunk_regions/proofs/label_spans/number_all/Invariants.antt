@@ -1,4 +1,4 @@
-use Rattle.std.proofs.Common.{Bool, ◌≡◌, ◌-◌, length}
+use Rattle.std.proofs.Common.{Bool, ◌≡◌, ◌-◌, length, take}
 use Rattle.std.specs.Prelude.{slice_index}
 use Rattle.nav_types.specs.declared.cells.Cell.{Cell}
 use Rattle.chunk_regions.specs.inner.Spans.{IsCut}
@@ -9,8 +9,9 @@ abbrev pub invariant-loop-row : goal.invariant-loop-row
 invariant-loop-row l = record {
   south : l.south ≡ slice_index l.rows.starts (l.row - 1);
   start : l.start ≡ slice_index l.rows.starts l.row;
-  next : length l.all.regions.items ≡ slice_index l.rows.starts l.row;
-  grown : AreGrown l.all.regions.items l.all.firsts.items l.all.places.items;
-  united : AreUnited l.rows l.all.regions.items (slice_index l.rows.starts l.row);
-  groups : (passes : Cell → Bool) → IsCut passes l.chunk l.rows → AreGroups passes l.chunk l.rows l.all.regions.items l.all.firsts.items;
+  room : length l.all.regions.items ≡ length l.rows.spans;
+  grown : AreGrown (take l.start l.all.regions.items) l.all.firsts.items l.all.places.items;
+  united : AreUnited l.rows (take l.start l.all.regions.items) l.start;
+  groups : (passes : Cell → Bool) → IsCut passes l.chunk l.rows
+      → AreGroups passes l.chunk l.rows (take l.start l.all.regions.items) l.all.firsts.items;
 }

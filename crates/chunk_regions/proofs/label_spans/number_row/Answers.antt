@@ -1,10 +1,10 @@
-use Rattle.std.proofs.Common.{◌≡◌, ◌<◌, ◌≤◌, ◌+◌, ◌-◌, ◌∙◌, inl, inr, ap, refl, sym, subst, arith}
+use Rattle.std.proofs.Common.{◌≡◌, ◌<◌, ◌≤◌, ◌+◌, ◌-◌, ◌∙◌, take, inl, inr, ap, refl, sym, subst, arith}
 use Rattle.std.specs.Prelude.{slice_index}
 use Rattle.std.proofs.lemmas.Bool.{cases_lt}
 use Rattle.std.proofs.lemmas.Option.{same_Some}
 use Rattle.chunk_regions.specs.declared.spans.Span.{Span}
 use Rattle.chunk_regions.specs.declared.label_spans.Place.{Place}
-use Rattle.chunk_regions.specs.inner.Joining.{AreUnited, Reach}
+use Rattle.chunk_regions.specs.inner.Joining.{AreGrown, AreUnited, KeepsGroups, Reach}
 use Rattle.chunk_regions.proofs.SpanLemmas.{starts_rise}
 use Rattle.chunk_regions.proofs.GroupLemmas.{Reach-from}
 use Rattle.chunk_regions.proofs.label_spans.number_row.Goals as goal
@@ -19,9 +19,9 @@ loop-at-init c =
     let to : row - 1 + (row - (row - 1)) ≡ row = omega arith in
     let rise = subst (λ k. slice_index runs.starts (row - 1) ≤ slice_index runs.starts k) to (starts_rise runs c.start-end.ensures.are (row - 1) (row - (row - 1)) (omega arith)) in
     record {
-      next = c.requires.next ∙ sym start;
+      room = refl;
       grown = c.requires.grown;
-      united = subst (λ k. AreUnited runs c.args.all.now.regions.items k) (sym start) c.requires.united;
+      united = c.requires.united;
       from = omega (arith, south);
       to = omega (arith, south, start, rise);
       passed = λ s n o in_row at.
@@ -76,7 +76,7 @@ loop-at-preserved c =
     let later = c.first_reaching-reached.ensures.from in
     let rises = c.span.ensures.ordered in
     record {
-      next = c.in_ok-number_span.ensures.length;
+      room = c.number_span.ensures.length ∙ kept.room;
       grown = c.in_ok-number_span.ensures.grown;
       united = c.in_ok-number_span.ensures.united;
       from = omega arith;
@@ -99,4 +99,22 @@ returns-clause-united c =
     let rising = c.start-end.ensures.are.rising c.args.row c.requires.here in
     let past : c.loop-at.at ≡ c.start-end.result =
     omega (arith, rising, c.requires.start, c.start-end.ensures.value, c.loop-at-test.false, c.loop-at.auto.at-end) in
-    subst (λ k. AreUnited runs c.loop-at.all.regions.items k) (past ∙ c.start-end.ensures.value) c.loop-at.invariant.united
+    subst (λ k. AreUnited runs (take k c.loop-at.all.regions.items) k) past c.loop-at.invariant.united
+
+pub returns-clause-grown : goal.returns-clause-grown
+returns-clause-grown c =
+    let rising = c.start-end.ensures.are.rising c.args.row c.requires.here in
+    let past : c.loop-at.at ≡ c.start-end.result =
+    omega (arith, rising, c.requires.start, c.start-end.ensures.value, c.loop-at-test.false, c.loop-at.auto.at-end) in
+    let all = c.loop-at.all in
+    subst (λ k. AreGrown (take k all.regions.items) all.firsts.items all.places.items) past c.loop-at.invariant.grown
+
+pub returns-clause-groups : goal.returns-clause-groups
+returns-clause-groups c =
+    let rising = c.start-end.ensures.are.rising c.args.row c.requires.here in
+    let past : c.loop-at.at ≡ c.start-end.result =
+    omega (arith, rising, c.requires.start, c.start-end.ensures.value, c.loop-at-test.false, c.loop-at.auto.at-end) in
+    let old = c.args.all.now in
+    let all = c.loop-at.all in
+    subst (λ k. KeepsGroups c.args.chunk c.args.rows.now (take c.args.start old.regions.items) old.firsts.items (take k all.regions.items) all.firsts.items)
+    past c.loop-at.invariant.groups
