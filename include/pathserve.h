@@ -6,6 +6,7 @@
  * the same posts get the same answers, byte for byte. docs/FORMAT.md describes each answer.
  *
  *     by text       pathserve_open       feed, finish          waiting, take, cause
+ *                   limit_line
  *     by structs    pathserve_open_map   check, post_all, end_turn   replies, waypoints, journal
  *                   pathserve_open_grid  limit_posts
  *     to go on      pathserve_open_script, script_cause, snapshot, forget   turn_digest, view_digest
@@ -145,8 +146,15 @@ pathserve_status pathserve_open(pathserve_match *match, uint32_t report);
  *                         it ENDED. The text is what the program writes for the script, whatever follows. All bytes were
  *                         consumed.
  *   NO_MEMORY             only the first `taken` bytes were consumed: feed the others again, or stop.
+ *   PAST_LIMIT            with them a line would have more bytes than pathserve_limit_line lets: no byte was consumed.
  *   ENDED, CLOSED, OTHER  no byte was consumed. */
 pathserve_status pathserve_feed(pathserve_match *match, const uint8_t *bytes, size_t length, size_t *taken);
+
+/* Lets a line of the script have at most so many bytes, without its newline. From then on pathserve_feed refuses with PAST_LIMIT
+ * exactly the bytes with which a line would have more, before it looks at them, also where the script has ended or stopped. The
+ * bytes of a line that has begun count from the first limit on, so set it where the match is opened. No answer changes. A match
+ * has no limit until one is set, but for that of TOO_LONG, and counts no bytes; SIZE_MAX is none. DONE, CLOSED, OTHER. */
+pathserve_status pathserve_limit_line(pathserve_match *match, size_t most);
 
 /* Ends the script, as the end of its input does for the program: bytes after the last newline then count as a line, and a
  * turn without its end line is bad. A game that ends its turns by end lines need not call it.

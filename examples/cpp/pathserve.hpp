@@ -592,6 +592,9 @@ class TextMatch {
         return taken;
     }
 
+    // Lets a line have at most so many bytes: `feed` refuses those with which one would have more, and takes nothing.
+    void limit_line(std::size_t most) { must(pathserve_limit_line(get(), most)); }
+
     // Ends the script. Failed with NO_MEMORY: it has ended, and some text is missing; call again.
     void finish() { must(pathserve_finish(get())); }
 

@@ -242,6 +242,7 @@ namespace Pathserve
         [DllImport(Library)] internal static extern void pathserve_close(ref Handle match);
         [DllImport(Library)] internal static extern Status pathserve_open(ref Handle match, Report report);
         [DllImport(Library)] internal static extern Status pathserve_feed(ref Handle match, byte[] bytes, UIntPtr length, out UIntPtr taken);
+        [DllImport(Library)] internal static extern Status pathserve_limit_line(ref Handle match, UIntPtr most);
         [DllImport(Library)] internal static extern Status pathserve_finish(ref Handle match);
         [DllImport(Library)] internal static extern Status pathserve_cause(ref Handle match, [Out] byte[] buffer, UIntPtr length, out UIntPtr whole);
         [DllImport(Library)] internal static extern UIntPtr pathserve_waiting(ref Handle match);
@@ -500,6 +501,9 @@ namespace Pathserve
             UIntPtr taken;
             Native.Must(Native.pathserve_feed(ref handle, script, Native.Count(script), out taken));
         }
+
+        /// <summary>Lets a line have at most so many bytes: `Feed` refuses those with which one would have more, and takes nothing.</summary>
+        public void LimitLine(ulong most) { Native.Must(Native.pathserve_limit_line(ref handle, (UIntPtr)most)); }
 
         /// <summary>Tells that no more bytes come.</summary>
         public void Finish() { Native.Must(Native.pathserve_finish(ref handle)); }

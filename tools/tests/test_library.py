@@ -1060,6 +1060,78 @@ class Python(unittest.TestCase):
             api.native.must(match._call("limit_posts", 1))
         self.assertEqual(raised.exception.status, api.Status.OTHER)
 
+    def fed(self, match, piece: bytes) -> bool:
+        """Whether a match takes a piece; else it refuses it for its limit."""
+        try:
+            match.feed(piece)
+            return True
+        except self.api.Failed as refused:
+            self.assertEqual(refused.status, self.api.Status.PAST_LIMIT)
+            return False
+
+    def test_a_limit_refuses_exactly_the_lines_past_it(self):
+        api, script = self.api, read("examples/skirmish.script")
+        longest = max(map(len, script.split(b"\n")))
+        refused = 0
+        for most in (longest - 1, longest, 40, 0):
+            for size in (1, 7, 64, len(script)):
+                with api.TextMatch() as match, api.TextMatch() as free:
+                    match.limit_line(most)
+                    begun = 0
+                    for at in range(0, len(script), size):
+                        piece = script[at : at + size]
+                        first, *others = piece.split(b"\n")
+                        fits = (not first or begun + len(first) <= most) and all(len(line) <= most for line in others)
+                        self.assertEqual(self.fed(match, piece), fits)
+                        if not fits:
+                            refused += 1
+                            match.limit_line(1 << 40)
+                            match.feed(piece)
+                            match.limit_line(most)
+                        free.feed(piece)
+                        begun = len(others[-1]) if others else begun + len(first)
+                        self.assertEqual(match.take(), free.take())
+        self.assertGreater(refused, 100)
+
+    def test_a_line_of_just_the_limit_passes(self):
+        api, line = self.api, read("examples/skirmish.script").split(b"\n")[0]
+        for size in (1, len(line)):
+            pieces = [line[at : at + size] for at in range(0, len(line), size)]
+            for most in (len(line), len(line) - 1):
+                with api.TextMatch() as match:
+                    match.limit_line(most)
+                    self.assertEqual([self.fed(match, piece) for piece in pieces], [True] * (len(pieces) - 1) + [most == len(line)])
+                    if most == len(line):
+                        self.assertFalse(self.fed(match, b" "))
+                        self.assertFalse(self.fed(match, b" \n"))
+                        match.feed(b"\n")
+                        match.view().close()
+                        self.assertFalse(self.fed(match, b"\n" + b" " * (most + 1)))
+                        self.assertTrue(self.fed(match, b" " * most))
+
+    def test_a_limit_of_lines_counts_from_the_first_on(self):
+        api = self.api
+        with api.TextMatch() as match:
+            match.feed(b" " * 100)
+            match.limit_line(3)
+            match.feed(b"  ")
+            match.limit_line(2)
+            self.assertFalse(self.fed(match, b" "))
+            match.limit_line(3)
+            self.assertTrue(self.fed(match, b" "))
+            self.assertFalse(self.fed(match, b" "))
+            match.feed(b"")
+            with self.assertRaises(api.BadLine):
+                match.feed(b"\n")
+            self.assertFalse(self.fed(match, b"    "))
+            with self.assertRaises(api.BadLine):
+                match.feed(b"   ")
+            with self.assertRaises(ValueError):
+                match.limit_line(-1)
+        with api.PostedMatch(4, 4, 1, [api.PassabilityClass("walker", 0)]) as match, self.assertRaises(api.Failed) as raised:
+            api.native.must(match._call("limit_line", 1))
+        self.assertEqual(raised.exception.status, api.Status.OTHER)
+
     def test_numbers_that_no_field_holds_are_refused(self):
         api = self.api
         classes = [api.PassabilityClass("walker", api.fixed(0.5))]

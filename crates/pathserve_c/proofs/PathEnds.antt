@@ -1,5 +1,5 @@
 -- How a path ends, by the targets of its goal.
-use Rattle.std.proofs.Common.{◌≡◌, ◌⊎◌, inl, inr, ◌==◌, ◌&&◌, ℕ, ℤ, Bool, true, false, Option, Some, None, Result, Ok, Err, IsTrue, if◌then◌else◌, refl, sym, ap, subst, ◌∙◌}
+use Rattle.std.proofs.Common.{◌≡◌, inl, inr, ◌==◌, ℕ, ℤ, Bool, true, false, Option, Some, None, Result, Ok, Err, IsTrue, if◌then◌else◌, refl, sym, ap, subst, ◌∙◌}
 use Rattle.std.proofs.lemmas.Bool.{and_parts, both_ways, eqb-true}
 use Rattle.nav_types.specs.declared.cells.Cell.{Cell}
 use Rattle.fixed_point.specs.Plane.{IsOnAxis}
@@ -12,7 +12,6 @@ use Rattle.goal_reach.proofs.Starting.{one_start}
 use Rattle.goal_reach.proofs.Targeting.{one_target}
 use Rattle.posts.specs.declared.edits.Refusal.{Refusal}
 use Rattle.posts.specs.declared.replies.Answer.{Answer}
-use Rattle.posts.specs.declared.replies.Answer.TheVariants as answer
 use Rattle.posts.specs.declared.replies.PathAnswer.{PathAnswer}
 use Rattle.posts.specs.declared.posts.Post.TheVariants.{Ask}
 use Rattle.posts.specs.declared.posts.RegionQuery.{RegionQuery}

@@ -23,6 +23,7 @@ use Rattle.pathserve_c.specs.declared.statuses.TheConstants.{DONE, NO_MEMORY, CL
 use Rattle.pathserve_c.specs.Statuses.{refusal, status_of, status_of_posts}
 use Rattle.pathserve_c.specs.Structs.{StructState, Ends, IsNew, has_room, PostsAs, script_of, standing_in}
 use Rattle.pathserve_c.specs.declared.statuses.PostFault.{PostFault}
+use Rattle.pathserve_c.specs.LineLimits.{fits_limit}
 use Rattle.pathserve_c.specs.Texts.{TextState, IsUnread, Feeds, Finishes, Takes}
 
 -- what is told beside the answers, by its number
@@ -55,7 +56,13 @@ abbrev pub IsOpened : ℕ → Option State → Option State → ℕ → Type 0
 IsOpened number (Some state) new status = IsRefused OPEN (Some state) new status
 IsOpened number None new status = IsOpenedFor (report_of number) new status
 
--- bytes were fed to a match by text, but what is left of a piece; anything else refuses, and all is left
+-- bytes were fed to a match, but what is left of a piece; where a line would have more than it may, none was
+abbrev pub IsFedTo : Bool → TextState → Option State → List ℕ → List ℕ → ℕ → Type 0
+IsFedTo false old new piece left status = IsRefused PAST_LIMIT (Some (Text old)) new status × (left ≡ piece)
+IsFedTo true old new piece left status = (made : TextState) × ((answer : Result (Unit {0}) MatchFault)
+    × ((new ≡ Some (Text made)) × ((status ≡ status_of answer) × Feeds old made piece left answer)))
+
+-- bytes came to a match by text; anything else refuses, and all is left
 abbrev pub IsFed : Option State → Option State → List ℕ → List ℕ → ℕ → Type 0
 IsFed None new piece left status = IsRefused (refusal None) None new status × (left ≡ piece)
 IsFed (Some (View version)) new piece left status = IsRefused (refusal (Some (View version))) (Some (View version)) new status × (left ≡ piece)
@@ -63,8 +70,7 @@ IsFed (Some (Structs structs)) new piece left status =
     IsRefused (refusal (Some (Structs structs))) (Some (Structs structs)) new status × (left ≡ piece)
 IsFed (Some (Finder finder)) new piece left status =
     IsRefused (refusal (Some (Finder finder))) (Some (Finder finder)) new status × (left ≡ piece)
-IsFed (Some (Text old)) new piece left status = (made : TextState) × ((answer : Result (Unit {0}) MatchFault)
-    × ((new ≡ Some (Text made)) × ((status ≡ status_of answer) × Feeds old made piece left answer)))
+IsFed (Some (Text old)) new piece left status = IsFedTo (fits_limit old.limit piece) old new piece left status
 
 -- the script of a match by text has ended; anything else refuses
 abbrev pub IsFinished : Option State → Option State → ℕ → Type 0

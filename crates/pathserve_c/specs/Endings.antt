@@ -1,6 +1,5 @@
 -- How a path would end, which a view says without a search.
 use Rattle.std.specs.Prelude.{ℕ, ◌≡◌, ◌⊎◌, Option, Some, None, if◌then◌else◌}
-use Rattle.nav_types.specs.declared.cells.Cell.{Cell}
 use Rattle.goal_reach.specs.declared.targets.Target.{Target}
 use Rattle.goal_reach.specs.declared.targets.Target.TheVariants as target
 use Rattle.posts.specs.declared.posts.Post.TheVariants.{Ask}

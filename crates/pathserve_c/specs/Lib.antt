@@ -10,6 +10,7 @@ pub mod Finds
 pub mod NearFinds
 pub mod Grids
 pub mod Handles
+pub mod LineLimits
 pub mod Limits
 pub mod Listings
 pub mod Questions

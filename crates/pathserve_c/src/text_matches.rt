@@ -1,8 +1,10 @@
 //! Matches by text, whose text is taken piece by piece.
-ghost use Rattle.std.specs.Prelude.{◌≡◌, drop, length, min, take, IfOk};
+ghost use Rattle.std.specs.Prelude.{◌≡◌, Some, drop, length, min, take, IfOk, IsTrue};
 ghost use Rattle.match_play.specs.Playing.{IsView, bad_cause, said_of};
+ghost use Rattle.pathserve_c.specs.LineLimits.{IsLimitAfter, fits_limit, limit_to};
 ghost use Rattle.pathserve_c.specs.Texts.{Feeds, Finishes, IsUnread, Takes};
 
+use crate::line_limits::LineLimit;
 use grid_versions::Version;
 use match_play::{Match, MatchFault};
 use nav_types::NoMemory;
@@ -11,26 +13,29 @@ use script_text::Cause;
 use std::alloc::Global;
 use std::marker::Model;
 
-/// A match by text. Contracts see the match, and the text that was told and not taken yet (`TextState`).
+/// A match by text. Contracts see the match, the text that was told and not taken yet, and the limit of its lines
+/// (`TextState`).
 ///
 /// Text that was taken keeps its memory until none waits.
 #[derive(Drop)]
 pub struct TextMatch {
     game: Match,
     taken: usize,
+    limit: Option<LineLimit>,
 }
 
 impl Model for TextMatch {
     ghost use Rattle.std.specs.Prelude.{◌≤◌, drop, length};
     ghost use Rattle.match_play.specs.contracts.matches.Match.{the_row as match_row};
+    ghost use Rattle.pathserve_c.specs.contracts.line_limits.LineLimit.{the_row as limit_row};
     ghost use Rattle.pathserve_c.specs.Texts.{TextState};
     ghost use Rattle.pathserve_c.specs.inner.Codes.{text_code};
 
     ghost Value = { TextState };
 
-    ghost coded = { text_code match_row.coded };
+    ghost coded = { text_code match_row.coded limit_row.coded };
 
-    ghost view = { λ m. record { game = m.game; waiting = drop m.taken m.game.waiting } };
+    ghost view = { λ m. record { game = m.game; waiting = drop m.taken m.game.waiting; limit = m.limit } };
 
     ghost invariant = { λ m. m.taken ≤ length m.game.waiting };
 }
@@ -43,14 +48,41 @@ impl TextMatch {
         TextMatch {
             game: Match::open(alloc, report),
             taken: 0,
+            limit: None,
         }
     }
 
-    /// Takes the next bytes of the script, as the match does. What is left of the bytes is behind what was taken.
+    /// Lets a line have at most so many bytes. Those of the line that has begun count from the first limit on.
+    pub fn limit_line(&mut self, most: usize)
+        ensures { self.new ≡ record self.old { limit = Some (limit_to most self.old.limit) } }
+    {
+        let begun = match self.limit {
+            Some(limit) => limit.begun,
+            None => 0,
+        };
+        self.limit = Some(LineLimit { most, begun });
+    }
+
+    /// Whether no line of these bytes has more than it may.
+    pub fn has_room(&self, bytes: &[u8]) -> bool
+        ensures { result ≡ fits_limit self.now.limit bytes.now }
+    {
+        match self.limit {
+            Some(limit) => limit.after(bytes).is_some(),
+            None => true,
+        }
+    }
+
+    /// Takes the next bytes of the script, as the match does. What is left of the bytes is behind what was taken. No line of
+    /// them has more than it may, which [`TextMatch::has_room`] tells.
     pub fn feed(&mut self, alloc: Global, bytes: &mut &[u8]) -> Result<(), MatchFault>
+        requires fits { IsTrue (fits_limit self.old.limit bytes.old.now) }
         ensures { Feeds self.old self.new bytes.old.now bytes.new.now result }
     {
-        self.game.feed(alloc, bytes)
+        let piece = *bytes;
+        let answer = self.game.feed(alloc, bytes);
+        self.limit = limit_after(self.limit, &piece[..piece.len() - bytes.len()]);
+        answer
     }
 
     /// Ends the script, as the match does.
@@ -102,4 +134,12 @@ impl TextMatch {
         }
         count
     }
+}
+
+/// The limit of a match that was fed with these bytes, no line of which has more than it may.
+fn limit_after(limit: Option<LineLimit>, bytes: &[u8]) -> Option<LineLimit>
+    requires { IsTrue (fits_limit limit bytes.now) }
+    ensures { IsLimitAfter limit bytes.now result }
+{
+    limit?.after(bytes)
 }

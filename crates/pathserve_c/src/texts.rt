@@ -1,11 +1,13 @@
 //! Calls of matches by text.
 ghost use Rattle.std.specs.Prelude.{◌≡◌, ◌≤◌, Some, drop, length, min, take};
-ghost use Rattle.pathserve_c.specs.Calls.{IsFed, IsFinished, IsOpened, IsTaken, report_of};
+ghost use Rattle.pathserve_c.specs.Calls.{IsFed, IsFedTo, IsFinished, IsOpened, IsTaken, report_of};
 ghost use Rattle.pathserve_c.specs.Handles.{IsHandle, state_of, waiting_in};
+ghost use Rattle.pathserve_c.specs.LineLimits.{fits_limit};
+ghost use Rattle.pathserve_c.specs.declared.states.State.TheVariants.{Text};
 
 use crate::handles::Handle;
 use crate::states::State;
-use crate::statuses::{BAD_VALUE, CLOSED, DONE, NO_MEMORY, OPEN, OTHER, status_of};
+use crate::statuses::{BAD_VALUE, CLOSED, DONE, NO_MEMORY, OPEN, OTHER, PAST_LIMIT, status_of};
 use crate::text_matches::TextMatch;
 use posts::Report;
 use std::alloc::Global;
@@ -127,8 +129,19 @@ fn feed_state(alloc: Global, state: &mut State, bytes: &mut &[u8]) -> u32
     ensures { IsFed (Some state.old) (Some state.new) bytes.old.now bytes.new.now result }
 {
     match state {
-        State::Text(text) => status_of(text.feed(alloc, bytes)),
+        State::Text(text) => feed_in_limit(alloc, text, bytes),
         State::Structs(_) | State::View(_) | State::Finder(_) => OTHER,
+    }
+}
+
+/// Feeds a match, where no line has more bytes than it may.
+fn feed_in_limit(alloc: Global, text: &mut TextMatch, bytes: &mut &[u8]) -> u32
+    ensures { IsFedTo (fits_limit text.old.limit bytes.old.now) text.old (Some (Text text.new)) bytes.old.now bytes.new.now result }
+{
+    if text.has_room(*bytes) {
+        status_of(text.feed(alloc, bytes))
+    } else {
+        PAST_LIMIT
     }
 }
 

@@ -137,6 +137,8 @@ declare class Match extends Owner {
 export class TextMatch extends Match {
   /** Feeds the next bytes or text, cut anywhere. What is told waits, also where this throws BAD_LINE. */
   feed(script: string | Uint8Array): void;
+  /** Lets a line have at most so many bytes: `feed` throws PAST_LIMIT where one would have more, and takes nothing. */
+  limitLine(most: number): void;
   /** Tells that no more bytes come. */
   finish(): void;
   /** Why the line is bad at which the match has stopped, as the program says it. Empty as long as no line was bad. */

@@ -417,6 +417,11 @@ export class TextMatch extends Match {
     must(status);
   }
 
+  /** Lets a line have at most so many bytes. */
+  limitLine(most) {
+    must(this.call("limit_line", BigInt(most)));
+  }
+
   /** Tells that no more bytes come. */
   finish() {
     must(this.call("finish"));

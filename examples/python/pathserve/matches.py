@@ -45,6 +45,10 @@ class TextMatch(_Match):
             raise OutOfMemory(taken.value)
         self._must(status)
 
+    def limit_line(self, most: int) -> None:
+        """Lets a line have at most so many bytes. `feed` raises PAST_LIMIT where one would have more, and takes nothing."""
+        must(self._call("limit_line", _limit(most)))
+
     def finish(self) -> None:
         """Tells that no more bytes come."""
         self._must(self._call("finish"))
@@ -76,6 +80,13 @@ class Turn(NamedTuple):
     areas: int
     relabelled: int
     replies: list[Reply]
+
+
+def _limit(most: int) -> int:
+    """A limit as the library takes it. ValueError where it has no room there, since ctypes would keep the low bits."""
+    if not 0 <= most < 1 << 64:
+        raise ValueError(f"most has no room for {most}")
+    return most
 
 
 def _masks_of(masks: Sequence[int]) -> ctypes.Array:
@@ -146,9 +157,7 @@ class PostedMatch(_Match):
 
     def limit_posts(self, most: int) -> None:
         """Lets at most so many posts wait for the end of a turn. `post` raises PAST_LIMIT where there would be more."""
-        if not 0 <= most < 1 << 64:
-            raise ValueError(f"most has no room for {most}")
-        must(self._call("limit_posts", most))
+        must(self._call("limit_posts", _limit(most)))
 
     def post(self, posts: Iterable[Post]) -> None:
         """Posts, behind those that the turn has: all or none. BadPost where one of them is no post of the map."""

@@ -150,6 +150,7 @@ CALLS = {
     "close": (None, [MATCH]),
     "open": (c_uint32, [MATCH, c_uint32]),
     "feed": (c_uint32, [MATCH, c_void_p, c_size_t, SIZE]),
+    "limit_line": (c_uint32, [MATCH, c_size_t]),
     "finish": (c_uint32, [MATCH]),
     "cause": (c_uint32, [MATCH, c_void_p, c_size_t, SIZE]),
     "waiting": (c_size_t, [MATCH]),

@@ -119,6 +119,9 @@ public static class Binding
             () => new PostedMatch(new Map { Width = 8, Height = 8, Callers = 1 }, new[] { new PassabilityClass(new string('w', 65), 0) }), "a long name");
         Refused(Status.NoMap, () => new TextMatch().View(), "a view of no map");
         Refused(Status.BadLine, () => new TextMatch(Report.Smooth).Feed(new byte[] { 10 }), "an empty line");
+        TextMatch lines = new TextMatch();
+        lines.LimitLine(1);
+        Refused(Status.PastLimit, () => lines.Feed(new byte[] { 123, 125, 10 }), "a line past its limit");
         TextMatch bad = new TextMatch();
         Must(bad.Cause() == "", "a cause of no bad line");
         Refused(Status.BadLine, () => bad.Feed(new byte[] { 10 }), "an empty line");

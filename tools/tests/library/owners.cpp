@@ -179,6 +179,9 @@ void saves() {
 }
 
 void misuse() {
+    TextMatch lines;
+    lines.limit_line(1);
+    refused(PATHSERVE_PAST_LIMIT, [&] { lines.feed("{}\n"); }, "a line past its limit");
     Match match = comb(8);
     Finder finder;
     Replies replies;

@@ -181,6 +181,10 @@ function limits() {
   match.post(ask);
   assert.equal(match.endTurn().replies.length, 2);
   match.close();
+  const lines = library.textMatch();
+  lines.limitLine(1);
+  assert.throws(() => lines.feed("{}\n"), failed(its.Status.PAST_LIMIT));
+  lines.close();
 }
 
 texts();

@@ -181,6 +181,7 @@ extern "C" {
 
     pub fn pathserve_open(its: *mut Match, report: u32) -> u32;
     pub fn pathserve_feed(its: *mut Match, bytes: *const u8, length: usize, taken: *mut usize) -> u32;
+    pub fn pathserve_limit_line(its: *mut Match, most: usize) -> u32;
     pub fn pathserve_finish(its: *mut Match) -> u32;
     pub fn pathserve_cause(its: *mut Match, buffer: *mut u8, length: usize, whole: *mut usize) -> u32;
     pub fn pathserve_waiting(its: *mut Match) -> usize;

@@ -28,6 +28,8 @@ fn main() -> Result<(), Error> {
 
 fn why_a_blank_line_is_bad() -> Result<String, Error> {
     let mut game = TextMatch::open(Report::Replay)?;
+    game.limit_line(1);
+    assert_eq!(game.feed(b"{}\n"), Err(Error::PastLimit));
     assert_eq!(game.feed(b"\n"), Err(Error::BadLine));
     game.cause()
 }

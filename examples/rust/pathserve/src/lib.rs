@@ -41,7 +41,7 @@ pub enum Error {
     NoMap,
     /// A value is no such kind, number or size.
     BadValue,
-    /// More posts than the limit that was set.
+    /// More posts, or more bytes of a line, than the limit that was set.
     PastLimit,
     /// The library that was linked is of another version.
     OtherVersion,
@@ -57,7 +57,7 @@ impl std::fmt::Display for Error {
             Error::Ended => write!(out, "the script has been finished"),
             Error::NoMap => write!(out, "the map line has not come"),
             Error::BadValue => write!(out, "a value is past its limits"),
-            Error::PastLimit => write!(out, "more posts than the limit that was set"),
+            Error::PastLimit => write!(out, "more than the limit that was set"),
             Error::OtherVersion => write!(out, "libpathserve is of another version"),
         }
     }

@@ -62,6 +62,12 @@ impl TextMatch {
         }
     }
 
+    /// Lets a line have at most so many bytes: `feed` refuses those with which one would have more, and takes nothing.
+    pub fn limit_line(&mut self, most: usize) {
+        // SAFETY: an exclusive handle.
+        unsafe { sys::pathserve_limit_line(self.handle(), most) };
+    }
+
     /// Tells that the script has no more bytes.
     pub fn finish(&mut self) -> Result<(), Error> {
         // SAFETY: an exclusive handle.
