@@ -1,5 +1,5 @@
 // A path by a turn, then a group of three units that walk to one goal: by paths of a finder, and by one flow field. In a release:
-//     mcs -out:group.exe examples/csharp/*.cs && LD_LIBRARY_PATH=lib mono group.exe
+//     mcs -out:group.exe examples/csharp/Pathserve.cs examples/csharp/Group.cs && LD_LIBRARY_PATH=lib mono group.exe
 using System;
 using System.Text;
 using Pathserve;

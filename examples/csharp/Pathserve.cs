@@ -114,41 +114,56 @@ namespace Pathserve
         public uint Id;
         public int X, Z, GoalX, GoalZ, Ux, Uz, Hw, Hh, Radius;
 
-        /// <summary>Adds a square along the axes under a number, for the classes of the mask.</summary>
-        public static Post AddUnit(byte caller, uint id, ushort mask, int x, int z, int half)
+        /// <summary>A number from 0 to a greatest, that of its field, which would hold another past it.</summary>
+        private static int Within(int greatest, int number, string name)
         {
-            return new Post { Kind = PostKind.AddUnit, Caller = caller, Id = id, Mask = mask, X = x, Z = z, Radius = half };
+            if (number < 0 || number > greatest) throw new ArgumentOutOfRangeException(name, number, "from 0 to " + greatest);
+            return number;
+        }
+
+        private static byte CallerOf(int caller) { return (byte)Within(byte.MaxValue, caller, "caller"); }
+
+        private static byte ClassOf(int classNumber) { return (byte)Within(byte.MaxValue, classNumber, "classNumber"); }
+
+        private static ushort MaskOf(int mask) { return (ushort)Within(ushort.MaxValue, mask, "mask"); }
+
+        /// <summary>Adds a square along the axes under a number, for the classes of the mask.</summary>
+        public static Post AddUnit(int caller, uint id, int mask, int x, int z, int half)
+        {
+            return new Post { Kind = PostKind.AddUnit, Caller = CallerOf(caller), Id = id, Mask = MaskOf(mask), X = x, Z = z, Radius = half };
         }
 
         /// <summary>Adds a rectangle along the unit vector (ux, uz) under a number, for the classes of the mask.</summary>
-        public static Post AddSquare(byte caller, uint id, ushort mask, int x, int z, int ux, int uz, int hw, int hh)
+        public static Post AddSquare(int caller, uint id, int mask, int x, int z, int ux, int uz, int hw, int hh)
         {
-            Post post = new Post { Kind = PostKind.AddSquare, Caller = caller, Id = id, Mask = mask, X = x, Z = z, Ux = ux, Uz = uz };
+            Post post = new Post { Kind = PostKind.AddSquare, Caller = CallerOf(caller), Id = id, Mask = MaskOf(mask), X = x, Z = z };
+            post.Ux = ux;
+            post.Uz = uz;
             post.Hw = hw;
             post.Hh = hh;
             return post;
         }
 
-        public static Post Remove(byte caller, uint id) { return new Post { Kind = PostKind.Remove, Caller = caller, Id = id }; }
+        public static Post Remove(int caller, uint id) { return new Post { Kind = PostKind.Remove, Caller = CallerOf(caller), Id = id }; }
 
-        public static Post Move(byte caller, uint id, int x, int z)
+        public static Post Move(int caller, uint id, int x, int z)
         {
-            return new Post { Kind = PostKind.Move, Caller = caller, Id = id, X = x, Z = z };
+            return new Post { Kind = PostKind.Move, Caller = CallerOf(caller), Id = id, X = x, Z = z };
         }
 
         /// <summary>Asks in which region and area of a class the point (x, z) lies.</summary>
-        public static Post Region(byte caller, byte classNumber, int x, int z)
+        public static Post Region(int caller, int classNumber, int x, int z)
         {
-            return new Post { Kind = PostKind.Region, Caller = caller, ClassNumber = classNumber, X = x, Z = z };
+            return new Post { Kind = PostKind.Region, Caller = CallerOf(caller), ClassNumber = ClassOf(classNumber), X = x, Z = z };
         }
 
-        private static Post Path(byte caller, byte classNumber, int x, int z, GoalKind goal)
+        private static Post Path(int caller, int classNumber, int x, int z, GoalKind goal)
         {
-            return new Post { Kind = PostKind.Path, Caller = caller, ClassNumber = classNumber, X = x, Z = z, Goal = goal };
+            return new Post { Kind = PostKind.Path, Caller = CallerOf(caller), ClassNumber = ClassOf(classNumber), X = x, Z = z, Goal = goal };
         }
 
         /// <summary>Asks for a path of a class from the point (x, z) to another, as do those below to other goals.</summary>
-        public static Post PathToPoint(byte caller, byte classNumber, int x, int z, int goalX, int goalZ)
+        public static Post PathToPoint(int caller, int classNumber, int x, int z, int goalX, int goalZ)
         {
             Post post = Path(caller, classNumber, x, z, GoalKind.Point);
             post.GoalX = goalX;
@@ -157,7 +172,7 @@ namespace Pathserve
         }
 
         /// <summary>To a circle, or to what lies outside it.</summary>
-        public static Post PathToCircle(byte caller, byte classNumber, int x, int z, int goalX, int goalZ, int radius, bool outside = false)
+        public static Post PathToCircle(int caller, int classNumber, int x, int z, int goalX, int goalZ, int radius, bool outside = false)
         {
             Post post = Path(caller, classNumber, x, z, outside ? GoalKind.NotCircle : GoalKind.Circle);
             post.GoalX = goalX;
@@ -168,7 +183,7 @@ namespace Pathserve
 
         /// <summary>To a rectangle along the unit vector (ux, uz), or to what lies outside it.</summary>
         public static Post PathToSquare(
-            byte caller, byte classNumber, int x, int z, int goalX, int goalZ, int ux, int uz, int hw, int hh, bool outside = false)
+            int caller, int classNumber, int x, int z, int goalX, int goalZ, int ux, int uz, int hw, int hh, bool outside = false)
         {
             Post post = Path(caller, classNumber, x, z, outside ? GoalKind.NotSquare : GoalKind.Square);
             post.GoalX = goalX;
@@ -181,7 +196,7 @@ namespace Pathserve
         }
 
         /// <summary>To the cells around an obstruction.</summary>
-        public static Post PathToObstruction(byte caller, byte classNumber, int x, int z, uint id, int distance)
+        public static Post PathToObstruction(int caller, int classNumber, int x, int z, uint id, int distance)
         {
             Post post = Path(caller, classNumber, x, z, GoalKind.Obstruction);
             post.Id = id;

@@ -1,4 +1,4 @@
-"""The binding for C#: it declares what the header does, and its example and a test of its own run by Mono."""
+"""The binding for C#: it declares what the header does, and its examples and a test of its own run by Mono."""
 import os
 import re
 import shutil
@@ -7,7 +7,7 @@ import tempfile
 import unittest
 
 from places import TOP, read
-from test_library import FIELD, RELEASE, needs_release
+from test_library import FIELD, RELEASE, SAVED, needs_release
 
 FOLDER = os.path.join("examples", "csharp")
 needs_mono = unittest.skipUnless(shutil.which("mcs") and shutil.which("mono"), "mono-mcs or mono-runtime is missing")
@@ -57,6 +57,10 @@ class ByMono(unittest.TestCase):
         found = [it.split(": ")[1] for it in lines if it.startswith("unit ") and ": " in it]
         self.assertEqual((lines[2], len(found)), (found[0], 3))
         self.assertIn("smoothed: True, 3 waypoints, not in sight", lines)
+
+    def test_the_example_of_saving_tells_what_that_for_c_does(self):
+        sources = [os.path.join(RELEASE, FOLDER, it) for it in ("Pathserve.cs", "Saves.cs")]
+        self.assertEqual(self.ran(sources), SAVED)
 
     def test_the_rest_of_the_binding(self):
         sources = [os.path.join(TOP, it) for it in (f"{FOLDER}/Pathserve.cs", "tools/tests/library/Binding.cs")]

@@ -27,6 +27,19 @@ public static class Binding
         throw new Exception(what + " was taken");
     }
 
+    private static void OutOfRange(Func<Post> make, string what)
+    {
+        try
+        {
+            make();
+        }
+        catch (ArgumentOutOfRangeException)
+        {
+            return;
+        }
+        throw new Exception(what + " was made");
+    }
+
     private static byte[] Answers(byte[] script)
     {
         using (TextMatch match = new TextMatch())
@@ -113,6 +126,11 @@ public static class Binding
         Cell[] cells = null;
         PostedMatch match = Comb(8);
         Refused(Status.BadValue, () => match.Post(Post.Remove(1, 1)), "another caller");
+        OutOfRange(() => Post.Remove(256, 1), "caller 256");
+        OutOfRange(() => Post.Region(0, -1, 0, 0), "class -1");
+        OutOfRange(() => Post.PathToPoint(0, 256, 0, 0, 0, 0), "class 256");
+        OutOfRange(() => Post.AddUnit(0, 1, 65536, 0, 0, 0), "mask 65536");
+        Must(Post.AddUnit(255, 1, 65535, 0, 0, 0).Caller == 255 && Post.AddUnit(255, 1, 65535, 0, 0, 0).Mask == 65535, "the greatest");
         Refused(Status.BadValue, () => new PostedMatch(new Map(), new PassabilityClass[0]), "no map");
         Refused(Status.BadValue, () => Comb(8).Post(Post.Region(0, 2, 0, 0)), "another class");
         Refused(Status.BadValue,
