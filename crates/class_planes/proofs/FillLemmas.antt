@@ -3,7 +3,8 @@ use Rattle.std.proofs.Common.{◌≡◌, ℕ, zero, suc, ◌+◌, ◌-◌, ◌*�
 use Rattle.std.specs.Int.{bit_at}
 use Rattle.std.proofs.lemmas.Bool.{cases_lt}
 use Rattle.std.proofs.lemmas.Nat.{pow_pos}
-use Rattle.std.proofs.lemmas.Nat.Bits.{bit_at-zero, bit_at_cat_low, bit_at_cat_high}
+use Rattle.std.proofs.lemmas.Nat.Bits.{bit_at-zero, bit_at-lt, bit_at_ones, bit_at_ones_above, bit_at_cat_low, bit_at_cat_high}
+use Rattle.nav_types.proofs.Bits.{bit_at-shr}
 
 -- the bits of a word that is moved up: those past the word's end are lost
 lost : (x k : ℕ) → k < 64 → bit_at (x % 18446744073709551616) k ≡ bit_at x k
@@ -141,3 +142,86 @@ up_start bits free = record {
       let next : suc k ≡ 1 + k = omega arith in
       subst (λ m. up_all bits free m ≡ max (bits m) (min (free m) (up_all bits free k))) next refl;
 }
+
+-- ---- words whose places are all free
+
+-- where all places are free, what is filled is what is set or lies beside it
+pub all_free : (free bits next all k : ℕ) → free ≡ 2 ^ 64 - 1 → k < 64 → next < 2
+    → all ≡ max bits next → all ≡ max bits (min (bit_at free k) next)
+all_free free bits next all k full below small is =
+    let set : bit_at free k ≡ 1 = ap (λ n. bit_at n k) full ∙ bit_at_ones 64 k below in
+    omega (arith, set, small, is)
+
+-- the bits of a word that is moved down, all of which were set
+down_set : (s k : ℕ) → s + k < 64 → bit_at ((2 ^ 64 - 1) / 2 ^ s) k ≡ 1
+down_set s k below = bit_at-shr (2 ^ 64 - 1) s k ∙ bit_at_ones 64 (s + k) below
+
+down_unset : (s k : ℕ) → 64 ≤ s + k → bit_at ((2 ^ 64 - 1) / 2 ^ s) k ≡ 0
+down_unset s k past = bit_at-shr (2 ^ 64 - 1) s k ∙ bit_at_ones_above 64 (s + k) past
+
+-- all places up to the highest that is set
+pub below_highest : (bits high k : ℕ) → high < 64 → bit_at bits high ≡ 1 → ((k : ℕ) → high < k → bit_at bits k ≡ 0) → k < 64
+    → bit_at ((2 ^ 64 - 1) / 2 ^ (63 - high)) k ≡ max (bit_at bits k) (bit_at ((2 ^ 64 - 1) / 2 ^ (63 - high)) (k + 1))
+below_highest bits high k small set none below = elim (cases_lt high k) [
+  | inl past ↦
+      let here = down_unset (63 - high) k (omega arith) in
+      let next = down_unset (63 - high) (k + 1) (omega arith) in
+      let unset = none k past in
+      omega (arith, here, next, unset)
+  | inr within ↦
+      let here = down_set (63 - high) k (omega arith) in
+      elim (cases_lt k high) [
+        | inl less ↦
+            let next = down_set (63 - high) (k + 1) (omega arith) in
+            let bit = bit_at-lt bits k in
+            omega (arith, here, next, bit)
+        | inr last ↦
+            let next = down_unset (63 - high) (k + 1) (omega arith) in
+            let same : high ≡ k = omega arith in
+            let own : bit_at bits k ≡ 1 = subst (λ n. bit_at bits n ≡ 1) same set in
+            omega (arith, here, next, own)
+      ]
+]
+
+-- the bits of a word that is moved up, all of which were set
+up_set : (s k : ℕ) → s ≤ k → k < 64 → bit_at ((2 ^ 64 - 1) * 2 ^ s % 18446744073709551616) k ≡ 1
+up_set s k from below =
+    let place : s + (k - s) ≡ k = omega arith in
+    let there : s + (k - s) < 64 = omega arith in
+    subst (λ n. bit_at ((2 ^ 64 - 1) * 2 ^ s % 18446744073709551616) n ≡ 1) place
+    (raised_high (2 ^ 64 - 1) s (k - s) there ∙ bit_at_ones 64 (k - s) (omega arith))
+
+-- all places from the lowest that is set on
+pub above_lowest : (bits low k : ℕ) → low < 64 → bit_at bits low ≡ 1 → ((k : ℕ) → k < low → bit_at bits k ≡ 0) → k + 1 < 64
+    → bit_at ((2 ^ 64 - 1) * 2 ^ low % 18446744073709551616) (k + 1)
+    ≡ max (bit_at bits (k + 1)) (bit_at ((2 ^ 64 - 1) * 2 ^ low % 18446744073709551616) k)
+above_lowest bits low k small set none below = elim (cases_lt k low) [
+  | inl before ↦
+      let here = raised_low (2 ^ 64 - 1) low k before small in
+      elim (cases_lt (k + 1) low) [
+        | inl less ↦
+            let next = raised_low (2 ^ 64 - 1) low (k + 1) less small in
+            let unset = none (k + 1) less in
+            omega (arith, here, next, unset)
+        | inr first ↦
+            let next = up_set low (k + 1) (omega arith) below in
+            let same : low ≡ k + 1 = omega arith in
+            let own : bit_at bits (k + 1) ≡ 1 = subst (λ n. bit_at bits n ≡ 1) same set in
+            omega (arith, here, next, own)
+      ]
+  | inr from ↦
+      let here = up_set low k from (omega arith) in
+      let next = up_set low (k + 1) (omega arith) below in
+      let bit = bit_at-lt bits (k + 1) in
+      omega (arith, here, next, bit)
+]
+
+pub lowest_of_all : (bits low : ℕ) → low < 64 → bit_at bits low ≡ 1 → ((k : ℕ) → k < low → bit_at bits k ≡ 0)
+    → bit_at ((2 ^ 64 - 1) * 2 ^ low % 18446744073709551616) 0 ≡ bit_at bits 0
+lowest_of_all bits low small set none = elim (cases_lt 0 low) [
+  | inl above ↦ raised_low (2 ^ 64 - 1) low 0 above small ∙ sym (none 0 above)
+  | inr at ↦
+      let same : low ≡ 0 = omega arith in
+      let own : bit_at bits 0 ≡ 1 = subst (λ n. bit_at bits n ≡ 1) same set in
+      up_set low 0 (omega arith) (omega arith) ∙ sym own
+]

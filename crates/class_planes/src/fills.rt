@@ -2,6 +2,8 @@
 ghost use Rattle.std.specs.Prelude.{◌≡◌, ◌<◌, ◌+◌, ℕ, max, min};
 ghost use Rattle.std.specs.Int.{bit_at};
 
+use crate::word_scans::{highest, lowest};
+
 /// Some places of a word, and those over which they may spread.
 #[derive(Clone, Copy)]
 struct Fill {
@@ -16,6 +18,9 @@ pub fn filled_down(bits: u64, free: u64) -> u64
 {
     if bits == 0 {
         return 0;
+    }
+    if free == u64::MAX {
+        return all_below(bits);
     }
     let one = spread_down(Fill { bits, free }, 1);
     let two = spread_down(one, 2);
@@ -34,12 +39,33 @@ pub fn filled_up(bits: u64, free: u64) -> u64
     if bits == 0 {
         return 0;
     }
+    if free == u64::MAX {
+        return all_above(bits);
+    }
     let one = spread_up(Fill { bits, free }, 1);
     let two = spread_up(one, 2);
     let four = spread_up(two, 4);
     let eight = spread_up(four, 8);
     let sixteen = spread_up(eight, 16);
     spread_up(sixteen, 32).bits
+}
+
+/// The highest of the bits, and all places below it. Where all are free, most words are filled so.
+fn all_below(bits: u64) -> u64
+    requires { 0 < bits }
+    ensures { (k : ℕ) → k < 64 → bit_at result k ≡ max (bit_at bits k) (bit_at result (k + 1)) }
+{
+    u64::MAX >> (63 - highest(bits))
+}
+
+/// The lowest of the bits, and all places above it.
+fn all_above(bits: u64) -> u64
+    requires { 0 < bits }
+    ensures lowest { bit_at result 0 ≡ bit_at bits 0 }
+    ensures others { (k : ℕ) → k + 1 < 64
+        → bit_at result (k + 1) ≡ max (bit_at bits (k + 1)) (bit_at result k) }
+{
+    u64::MAX << lowest(bits)
 }
 
 /// The bits spread so many places further down, and the places that are free with those so far below.

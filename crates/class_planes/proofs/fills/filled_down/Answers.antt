@@ -1,7 +1,7 @@
 use Rattle.std.proofs.Common.{ℕ, ◌≡◌, ◌+◌, max, min, sym, ap, ◌∙◌, arith}
 use Rattle.std.specs.Int.{bit_at}
-use Rattle.std.proofs.lemmas.Nat.Bits.{bit_at_above}
-use Rattle.class_planes.proofs.FillLemmas.{none_spread, IsFilledDown, down_all, down_none, down_start, down_further, down_end}
+use Rattle.std.proofs.lemmas.Nat.Bits.{bit_at_above, bit_at-lt}
+use Rattle.class_planes.proofs.FillLemmas.{all_free, none_spread, IsFilledDown, down_all, down_none, down_start, down_further, down_end}
 use Rattle.class_planes.proofs.fills.filled_down.Goals as goal
 
 pub returns : goal.returns
@@ -43,3 +43,8 @@ returns c k below =
 
 pub returns-then-bits-eq0 : goal.returns-then-bits-eq0
 returns-then-bits-eq0 c k below = none_spread c.args.bits c.args.free k (k + 1) c.if-bits-eq0.true
+
+pub returns-then-free-eq18446744073709551615 : goal.returns-then-free-eq18446744073709551615
+returns-then-free-eq18446744073709551615 c k below =
+    all_free c.args.free (bit_at c.args.bits k) (bit_at c.all_below.result (k + 1)) (bit_at c.all_below.result k) k
+    c.if-free-eq18446744073709551615.true below (bit_at-lt c.all_below.result (k + 1)) (c.all_below.ensures k below)

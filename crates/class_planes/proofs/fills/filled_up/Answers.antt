@@ -1,6 +1,7 @@
 use Rattle.std.proofs.Common.{ℕ, suc, ◌≡◌, ◌+◌, ◌<◌, max, min, sym, ap, ◌∙◌, subst, arith}
 use Rattle.std.specs.Int.{bit_at}
-use Rattle.class_planes.proofs.FillLemmas.{none_spread, IsFilledUp, up_all, up_start, up_further}
+use Rattle.std.proofs.lemmas.Nat.Bits.{bit_at-lt}
+use Rattle.class_planes.proofs.FillLemmas.{all_free, none_spread, IsFilledUp, up_all, up_start, up_further}
 use Rattle.class_planes.proofs.fills.filled_up.Goals as goal
 
 pub returns-clause-lowest : goal.returns-clause-lowest
@@ -53,3 +54,8 @@ returns-then-bits-eq0-clause-lowest c = ap (λ n. bit_at n 0) (sym c.if-bits-eq0
 pub returns-then-bits-eq0-clause-others : goal.returns-then-bits-eq0-clause-others
 returns-then-bits-eq0-clause-others c k below =
     none_spread c.args.bits c.args.free (k + 1) k c.if-bits-eq0.true
+
+pub returns-then-free-eq18446744073709551615-clause-others : goal.returns-then-free-eq18446744073709551615-clause-others
+returns-then-free-eq18446744073709551615-clause-others c k below =
+    all_free c.args.free (bit_at c.args.bits (k + 1)) (bit_at c.all_above.result k) (bit_at c.all_above.result (k + 1)) (k + 1)
+    c.if-free-eq18446744073709551615.true below (bit_at-lt c.all_above.result k) (c.all_above.ensures.others k below)
