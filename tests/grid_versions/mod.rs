@@ -516,13 +516,13 @@ fn searched(
 /// A corridor that winds through 8 by 5 cells.
 const SNAKE: &str = "......../#######./......../.#######/........";
 
-// How many jump states searches open before the edits, and how many tables there are after these. Two tables on the
-// snake cost 17 jump states: a fourth of its cells, with a border of one cell. A class has at most eight.
+// How many jump states searches open before the edits, and how many tables there are after these. A table of the snake
+// costs eight jump states: an eighth of its cells, with a border of one cell. A class has at most eight.
 const EARNINGS: [(u64, &str, usize); 6] = [
-    (16, "", 0),
-    (1, "", 2),
-    (16, "", 2),
-    (1, "add 1 65535 unit 98304 32768 16384", 4),
+    (7, "", 0),
+    (1, "", 1),
+    (20, "", 3),
+    (4, "add 1 65535 unit 98304 32768 16384", 4),
     (1_000_000, "remove 1", 8),
     (1_000_000, "", 8),
 ];
@@ -561,4 +561,25 @@ fn tables_know_the_terrain_of_their_class(rt: HostRuntime) {
     let bound = bound_in(&next, 1, [0, 4]).unwrap_or(u64::MAX);
     assert!(rt; tables_of(&next, 0) == 0 && tables_of(&next, 1) == 2);
     assert!(rt; bound <= 4 * 12 * 5_451, "{bound}");
+}
+
+/// How many tables an open map of 1,100 by 1,100 cells has after each of four turns, where searches have earned two before
+/// the first.
+fn tables_by_turn(alloc: Global) -> Option<[usize; 4]> {
+    let mut version = version_of(alloc, [1_100, 1_100], (1, "0"), &[])?;
+    let mut tables = [0; 4];
+    let mut opened = 2 * 151_800;
+    for turn in 0..4 {
+        version = searched(&version, alloc, (0, opened), "")?;
+        tables[turn] = tables_of(&version, 0);
+        opened = 0;
+    }
+    Some(tables)
+}
+
+/// A table of so many cells is more work than a turn may do for tables: two and a quarter turns of it.
+#[test]
+fn a_large_map_gets_a_table_by_parts(rt: HostRuntime) {
+    let tables = tables_by_turn(rt.alloc());
+    assert!(rt; tables == Some([0, 0, 1, 1]), "{tables:?}");
 }

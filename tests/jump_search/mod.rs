@@ -2,6 +2,7 @@
 
 use crate::fixtures::aims::Targets;
 use crate::fixtures::counted::Counted;
+use crate::fixtures::landmarks::add_table;
 use crate::fixtures::maps::{block, drawn, drawn_for};
 use crate::fixtures::rows::GridRows;
 use crate::fixtures::searches::{Search, is_fit, is_found, search_of};
@@ -224,8 +225,7 @@ fn asked_runs<Q: JumpSearch>(
 fn tables_of(alloc: Global, map: &Grid, near: Cell) -> Option<Landmarks> {
     let mut tables = Landmarks::none(alloc, map.size()).ok()?;
     for _ in 0..MAX_TABLES {
-        let rows = GridRows { grid: map };
-        tables.add(alloc, &rows, Class::new(0), near).ok()?;
+        add_table(alloc, &mut tables, map, near).ok()?;
     }
     Some(tables)
 }

@@ -1,9 +1,10 @@
 //! Tables of landmarks over small maps that are drawn as text, against the plain search.
 
 use crate::fixtures::aims::Targets;
+use crate::fixtures::landmarks::add_table;
 use crate::fixtures::maps::drawn;
 use crate::fixtures::rows::GridRows;
-use landmarks::{Landmarks, MAX_TABLES};
+use landmarks::{HalfTable, Landmarks, MAX_TABLES};
 use nav_types::{Cell, Class, Rect, View};
 use navcell_grid::Grid;
 use std::alloc::Global;
@@ -24,8 +25,7 @@ const SNAKE: &str = "......../#######./......../.#######/........";
 fn tables_of(alloc: Global, map: &Grid, near: Cell, count: usize) -> Option<Landmarks> {
     let mut tables = Landmarks::none(alloc, map.size()).ok()?;
     for _ in 0..count {
-        let rows = GridRows { grid: map };
-        tables.add(alloc, &rows, Class::new(0), near).ok()?;
+        add_table(alloc, &mut tables, map, near).ok()?;
     }
     Some(tables)
 }
@@ -124,9 +124,8 @@ fn the_bound_knows_walls(rt: HostRuntime) {
 fn two_sides(alloc: Global) -> Option<(u64, u64, usize)> {
     let map = drawn(alloc, "....#....")?;
     let mut tables = Landmarks::none(alloc, map.size()).ok()?;
-    let rows = GridRows { grid: &map };
     for near in [Cell::new(1, 0), Cell::new(7, 0)] {
-        tables.add(alloc, &rows, Class::new(0), near).ok()?;
+        add_table(alloc, &mut tables, &map, near).ok()?;
     }
     let west = tables.at_least(Cell::new(0, 0), Cell::new(3, 0));
     let east = tables.at_least(Cell::new(8, 0), Cell::new(5, 0));
@@ -207,8 +206,7 @@ fn copied(alloc: Global) -> Option<[(usize, u64); 2]> {
     let west = tables_of(alloc, &map, Cell::new(1, 0), 1)?;
     let mut both = west.copy(alloc).ok()?;
     let (from, to) = (Cell::new(8, 0), Cell::new(5, 0));
-    let rows = GridRows { grid: &map };
-    both.add(alloc, &rows, Class::new(0), to).ok()?;
+    add_table(alloc, &mut both, &map, to).ok()?;
     Some([
         (west.made(), west.at_least(from, to)),
         (both.made(), both.at_least(from, to)),
@@ -219,4 +217,41 @@ fn copied(alloc: Global) -> Option<[(usize, u64); 2]> {
 fn a_copy_gets_tables_of_its_own(rt: HostRuntime) {
     let bounds = copied(rt.alloc());
     assert!(rt; bounds == Some([(1, 0), (2, 3 * 12 * 5_451)]), "{bounds:?}");
+}
+
+/// In how many parts of so much work a table of a map is made, and how much of the last is left. None where a thousand parts
+/// are too few.
+fn parts(alloc: Global, map: &Grid, work: usize) -> Option<(u32, usize)> {
+    let rows = GridRows { grid: map };
+    let mut half = HalfTable::begin(alloc, &rows, Class::new(0), Cell::new(0, 0)).ok()?;
+    for part in 1..1_000 {
+        let mut left = work;
+        half = half.gone_on(alloc, None, &rows, &mut left).ok()?;
+        if half.is_made() {
+            return Some((part, left));
+        }
+    }
+    None
+}
+
+// The work of a part, how many parts a table of a corridor of seven cells takes, and how much of the last is left. A row of
+// the table has nine places, which are marked at once. Marks spread from six of them, which is four units of work each, and
+// 17 squares are looked at.
+const PARTS: [(usize, u32, usize); 5] = [
+    (1_000, 1, 950),
+    (50, 1, 0),
+    (49, 2, 48),
+    (25, 2, 0),
+    (9, 6, 1),
+];
+
+#[test]
+fn a_part_takes_no_more_work_than_it_may(rt: HostRuntime) {
+    let Some(map) = drawn(rt.alloc(), ".......") else {
+        panic!(rt; "no map");
+    };
+    for (work, count, left) in PARTS {
+        let made = parts(rt.alloc(), &map, work);
+        assert!(rt; made == Some((count, left)), "{work}: {made:?}");
+    }
 }

@@ -16,7 +16,7 @@ use turn_core::{Answer, PathRequest, Request, solve, solve_within};
 /// alone, and at each of their 165 crossings a walk may turn.
 const SIDES: [u16; 2] = [65, 9];
 
-/// How many jump states two tables cost: a fourth of the 67 by 11 cells that the map has with a border of one cell.
+/// How many jump states two tables cost: each an eighth of the 67 by 11 cells that the map has with a border of one cell.
 const PRICE: u64 = 184;
 
 /// The row along which the path leads.

@@ -18,7 +18,8 @@ use Rattle.posts.specs.Maps.{Map}
 use Rattle.grid_versions.specs.Chunks.{chunk_count}
 use Rattle.grid_versions.specs.Passing.{has_base, is_blocked, passable_at}
 use Rattle.grid_versions.specs.Versions.{MapState, passes_of}
-use Rattle.grid_versions.specs.inner.Guiding.{AreGuides, MayGuide, AreAllGuides}
+use Rattle.landmarks.specs.HalfTables.{Half, IsBegun}
+use Rattle.grid_versions.specs.inner.Guiding.{AreGuides, MayGuide, IsOnItsWay, Guiding, AreAllGuides}
 use Rattle.grid_versions.specs.inner.Painting.{AreBaseChunks, IsBaseChunk, ArePaintedChunks, IsPaintedChunk, is_covered}
 use Rattle.grid_versions.proofs.ChunkLemmas.{AreOfChunks-weaker}
 use Rattle.grid_versions.proofs.PassingLemmas.{any_none, passable_in_words}
@@ -73,18 +74,40 @@ found_so None P Q so is = tt
 found_so (Some a) P Q so is = so a is
 
 -- the tables of a class serve it
-pub guides_of : (map : Map) (all : List (Option Tables)) (k : ℕ) (tables : Tables) → AreAllGuides map all
-    → slice_get all k ≡ Some (Some tables) → AreGuides map k tables
+pub guides_of : (map : Map) (all : Guiding) (k : ℕ) (tables : Tables) → AreAllGuides map all
+    → slice_get all.classes k ≡ Some (Some tables) → AreGuides map k tables
 guides_of map all k tables are at = are.are k (Some tables) at
 
--- tables that are added where nothing stands keep them so
-pub still_guides : (state : MapState) (k : ℕ) (old new : Tables) → state.standing ≡ fin_map.empty → new.size ≡ old.size
-    → (AreGentle (passes_of state k) old → AreGentle (passes_of state k) new) → AreGuides state.map k old → AreGuides state.map k new
-still_guides state k old new none sized keeps guides = record {
+-- tables to which one is added keep them so
+pub still_guides : (map : Map) (half : Half) (old new : Tables) → IsOnItsWay map half → new.size ≡ old.size
+    → ((passes : Cell → Bool) → IsBegun passes half → AreGentle passes old → AreGentle passes new) → AreGuides map half.class old
+    → AreGuides map half.class new
+still_guides map half old new way sized keeps guides = record {
   size = sized ∙ guides.size;
-  gentle = subst (λ (s : Standing). AreGentle (passable_at state.map s k) new) none
-      (keeps (subst (λ (s : Standing). AreGentle (passable_at state.map s k) old) (sym none) guides.gentle));
+  gentle = keeps (passable_at map fin_map.empty half.class) way.begun guides.gentle;
 }
+
+-- what is made of a table where nothing stands is right for it
+pub begun_bare : (state : MapState) (k : ℕ) (half : Half) → state.standing ≡ fin_map.empty → IsBegun (passes_of state k) half
+    → IsBegun (passable_at state.map fin_map.empty k) half
+begun_bare state k half none begun = subst (λ (s : Standing). IsBegun (passable_at state.map s k) half) none begun
+
+pub bare_begun : (state : MapState) (k : ℕ) (half : Half) → state.standing ≡ fin_map.empty
+    → IsBegun (passable_at state.map fin_map.empty k) half → IsBegun (passes_of state k) half
+bare_begun state k half none begun = subst (λ (s : Standing). IsBegun (passable_at state.map s k) half) (sym none) begun
+
+-- the table on its way goes on
+pub way_of : (state : MapState) (k : ℕ) (half : Half) → state.standing ≡ fin_map.empty → half.size ≡ state.map.size → half.class ≡ k
+    → k < length state.map.classes → IsBegun (passes_of state k) half → IsOnItsWay state.map half
+way_of state k half none sized own low begun = record {
+  size = sized;
+  class = subst (λ (i : ℕ). i < length state.map.classes) (sym own) low;
+  begun = subst (λ (i : ℕ). IsBegun (passable_at state.map fin_map.empty i) half) (sym own) (begun_bare state k half none begun);
+}
+
+pub way_on : (state : MapState) (old new : Half) → state.standing ≡ fin_map.empty → IsOnItsWay state.map old → new.size ≡ old.size
+    → new.class ≡ old.class → IsBegun (passes_of state old.class) new → IsOnItsWay state.map new
+way_on state old new none way sized own begun = way_of state old.class new none (sized ∙ way.size) own way.class begun
 
 -- where no class has tables
 none_at : (count at : ℕ) (tables : Option Tables) → slice_get (replicate count None) at ≡ Some tables → tables ≡ None
@@ -94,28 +117,33 @@ none_at count at tables here =
     let low : at < count = omega (arith, slice_get_within none at tables here, length-replicate count nobody) in
     sym (get_or_from_slice_get none at tables tables here) ∙ get_or-replicate count at None tables low
 
-pub none_guide : (map : Map) (all : List (Option Tables)) (count : ℕ) → all ≡ replicate count None → count ≡ length map.classes
-    → AreAllGuides map all
+pub none_guide : (map : Map) (all : Guiding) (count : ℕ) → all ≡ record { classes = replicate count None; half = None }
+    → count ≡ length map.classes → AreAllGuides map all
 none_guide map all count none many =
     let nobody : Option Tables = None in
-    record {
-      each = ap (λ (xs : List (Option Tables)). length xs) none ∙ length-replicate count nobody ∙ many;
-      are = λ k tables at.
-          subst (MayGuide map k)
-          (sym (none_at count k tables (ap (λ (xs : List (Option Tables)). slice_get xs k) (sym none) ∙ at))) tt;
-    }
+    subst (AreAllGuides map) (sym none) (record {
+      each = length-replicate count nobody ∙ many;
+      are = λ k tables at. subst (MayGuide map k) (sym (none_at count k tables at)) tt;
+      half = tt;
+    })
+
+-- where another table is on its way
+pub others_on_way : (map : Map) (all : Guiding) (half : Option Half) → AreAllGuides map all → IfSome half (IsOnItsWay map)
+    → AreAllGuides map (record { classes = all.classes; half = half })
+others_on_way map all half are way = record { each = are.each; are = are.are; half = way }
 
 -- where one class has other tables
-pub others_guide : (map : Map) (all : List (Option Tables)) (k : ℕ) (new : Option Tables) → AreAllGuides map all
-    → MayGuide map k new → AreAllGuides map (set all k new)
+pub others_guide : (map : Map) (all : Guiding) (k : ℕ) (new : Option Tables) → AreAllGuides map all
+    → MayGuide map k new → AreAllGuides map (record { classes = set all.classes k new; half = None })
 others_guide map all k new are serve = record {
-  each = length-set all k new ∙ are.each;
+  each = length-set all.classes k new ∙ are.each;
   are = λ at tables is. elim (cases_eq at k) [
     | inl here ↦
-        let low : k < length all = omega (arith, slice_get_within (set all k new) at tables is, length-set all k new, here) in
-        let own : slice_get (set all k new) k ≡ Some tables = ap (λ (i : ℕ). slice_get (set all k new) i) (sym here) ∙ is in
+        let low : k < length all.classes = omega (arith, slice_get_within (set all.classes k new) at tables is, length-set all.classes k new, here) in
+        let own : slice_get (set all.classes k new) k ≡ Some tables = ap (λ (i : ℕ). slice_get (set all.classes k new) i) (sym here) ∙ is in
         subst (λ (i : ℕ). MayGuide map i tables) (sym here)
-        (subst (λ (x : Option Tables). MayGuide map k x) (set_here all k new tables low own) serve)
-    | inr other ↦ are.are at tables (set_elsewhere all k at new tables other is)
+        (subst (λ (x : Option Tables). MayGuide map k x) (set_here all.classes k new tables low own) serve)
+    | inr other ↦ are.are at tables (set_elsewhere all.classes k at new tables other is)
   ];
+  half = tt;
 }

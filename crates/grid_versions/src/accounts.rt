@@ -5,7 +5,7 @@ ghost use Rattle.nav_types.specs.Cells.{IsInside};
 use nav_types::{Cell, Size};
 use std::sync::atomic::{AtomicU64, Ordering};
 
-/// How many jump states the searches of a class have opened since its tables of landmarks were made, and the cell from
+/// How many jump states the searches of a class have opened that have not paid for tables of landmarks, and the cell from
 /// which the last of them went. Threads note their searches side by side.
 #[derive(Drop)]
 pub struct Account {
@@ -36,9 +36,19 @@ impl Account {
         self.opened.load(Ordering::SeqCst)
     }
 
-    /// Begins to count from 0.
-    pub fn settle(&self) {
-        self.opened.store(0, Ordering::SeqCst);
+    /// Pays so many of these.
+    pub fn pay(&self, price: u64) {
+        let left = self.opened().saturating_sub(price);
+        self.opened.store(left, Ordering::SeqCst);
+    }
+
+    /// The same account, for others to note in. This one then counts from 0.
+    pub fn hand_on(&self) -> Account {
+        Account {
+            opened: AtomicU64::new(self.opened.swap(0, Ordering::SeqCst)),
+            column: AtomicU64::new(self.column.load(Ordering::SeqCst)),
+            row: AtomicU64::new(self.row.load(Ordering::SeqCst)),
+        }
     }
 
     /// The cell from which the last search went, on a map of this size. Where two are noted at once, it may have the

@@ -313,23 +313,22 @@ impl Version {
         })
     }
 
-    /// What searches on the next version go by: what those on this one do, and tables that a class has earned by these.
+    /// What searches on the next version go by: what those on this one do, and a part of the tables that these have earned.
     /// Where there is no memory for more it stays.
     fn next_guides(&self, alloc: Global) -> Result<Arc<Guides, Global>, NoMemory>
         ensures { IfOk result (λ guides. AreAllGuides self.now.map (arc_value guides)) }
     {
         let map = self.map();
-        if let Some(class) = self.guides.richest(map.size(), map.classes().count()) {
-            if let Ok(guides) = self.grown_guides(alloc, class) {
+        if self.guides.are_due(map.size(), map.classes().count()) {
+            if let Ok(guides) = self.grown_guides(alloc) {
                 return Ok(guides);
             }
         }
         Ok(Arc::try_clone(&self.guides)?)
     }
 
-    /// What searches on this version go by, with all tables that a class has earned.
-    fn grown_guides(&self, alloc: Global, class: Class) -> Result<Arc<Guides, Global>, NoMemory>
-        requires { class < length self.now.map.classes }
+    /// What searches on this version go by, with as much of the tables that classes have earned as a turn makes.
+    fn grown_guides(&self, alloc: Global) -> Result<Arc<Guides, Global>, NoMemory>
         ensures { IfOk result (λ guides. AreAllGuides self.now.map (arc_value guides)) }
     {
         let parts = self.kept();
@@ -339,7 +338,10 @@ impl Version {
             shapes: &nothing,
         };
         let bare = PaintedMap::new(&site, &parts.layers.cell_layer.base);
-        Ok(Arc::new(alloc, self.guides.grown(alloc, &bare, class)?)?)
+        match self.guides.grown(alloc, &bare)? {
+            Some(guides) => Ok(Arc::new(alloc, guides)?),
+            None => Ok(Arc::try_clone(&self.guides)?),
+        }
     }
 
     /// Tables of landmarks of a class of the map, if its searches have earned some. They are of the map's size, and gentle

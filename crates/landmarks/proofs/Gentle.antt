@@ -12,7 +12,8 @@ use Rattle.nav_types.specs.declared.directions.Dir.TheVariants.{N, E, S, W, NE, 
 use Rattle.nav_types.specs.Cells.{IsInside, cell_at}
 use Rattle.nav_types.specs.Walks.{Step}
 use Rattle.landmarks.specs.Landmarks.{Tables, AreGentle, spot_of, most_apart}
-use Rattle.landmarks.specs.inner.Fields.{spots, AreAllGentle, IsSquareGentle, AreMarks, IsWritten, Spreads}
+use Rattle.landmarks.specs.HalfTables.{Half, IsBegun, IsDone}
+use Rattle.landmarks.specs.inner.Fields.{spots, AreAllGentle, IsSquareGentle, IsWritten}
 
 -- the mark of a cell
 abbrev pub mark_of : Size → List ℕ → Cell → ℕ
@@ -162,16 +163,14 @@ gentle_added passes size made more marks old new room known whole written gentle
       ];
     }
 
--- marks that spread from those of all passable cells are known
-pub known_marks : (passes : Cell → Bool) (size : Size) (blank marks : List ℕ) → ((cell : Cell) → IsTrue (passes cell) → IsInside size cell)
-    → AreMarks passes size 0 size.h blank → Spreads blank marks
-    → AreAllGentle (size.w + 2) marks → AreKnown passes size marks
-known_marks passes size blank marks inside were spreads gentle = record {
-  inside = inside;
-  long = spreads.long ∙ were.long;
-  most = spreads.most were.most;
-  marked = λ cell free. spreads.marked (spot_of size cell) (were.marked cell free (inl (inside cell free).row));
-  gentle = gentle;
+-- the marks of a table that is done are known
+pub known_marks : (passes : Cell → Bool) (half : Half) → IsBegun passes half → IsDone half → AreKnown passes half.size half.marks
+known_marks passes half begun done = record {
+  inside = begun.inside;
+  long = begun.marks.long;
+  most = begun.marks.most;
+  marked = λ cell free. begun.marks.marked cell free (inl (omega (arith, (begun.inside cell free).row, done.rows)));
+  gentle = λ end within at below. begun.gentle at (omega (arith, within, done.squares, below));
 }
 
 -- how many tables are made makes no difference

@@ -1,3 +1,4 @@
 pub mod Landmarks
+pub mod HalfTables
 pub mod inner
 pub mod Spans

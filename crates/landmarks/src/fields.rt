@@ -8,9 +8,6 @@ use crate::units::{DIAGONAL_UNITS, STRAIGHT_UNITS};
 use nav_types::{Dir, NoMemory};
 use std::alloc::Global;
 
-/// The most times that a cell's mark falls: once for each direction from which a step leads to it.
-const MOST_FALLS: usize = 8;
-
 /// Marks that spread from a landmark, and the places whose marks fell: those that a straight step reached, and those that
 /// a diagonal one did. In each of the two queues marks rise, so that the smaller of their heads is the least that waits.
 ///
@@ -20,6 +17,8 @@ pub struct TableSpread {
     pub marks: Vec<u16>,
     straight: TableQueue,
     diagonal: TableQueue,
+    /// The place that was reached last.
+    pub last: usize,
 }
 
 /// An eighth of a turn to the left: of N it is NW.
@@ -114,7 +113,20 @@ impl TableSpread {
             marks,
             straight: TableQueue::new(alloc),
             diagonal: TableQueue::new(alloc),
+            last: 0,
         }
+    }
+
+    /// The same once more.
+    pub fn copy(&self, alloc: Global) -> Result<TableSpread, NoMemory>
+        ensures { IfOk result (λ same. same.marks.items ≡ self.now.marks.items) }
+    {
+        Ok(TableSpread {
+            marks: Vec::from_slice(alloc, self.marks.as_slice())?,
+            straight: self.straight.copy(alloc)?,
+            diagonal: self.diagonal.copy(alloc)?,
+            last: self.last,
+        })
     }
 
     /// Takes back all that was reached, when no place waits.
@@ -273,12 +285,14 @@ impl TableSpread {
         at > width && at < self.marks.len() - width - 1
     }
 
-    /// Lowers the marks round the place where a spread begins, by all steps from it.
-    fn begin(&mut self, width: usize, from: usize) -> Result<(), NoMemory>
+    /// Begins a spread: lowers the marks round the place from which it goes, by all steps from there. `width` is that of a row
+    /// of the table.
+    pub fn begin(&mut self, width: usize, from: usize) -> Result<(), NoMemory>
         requires wide { width + 1 < length self.old.marks.items }
         requires room { HasRoom self.old.marks.items }
         ensures { OnOk result (Spreads self.old.marks.items self.new.marks.items) }
     {
+        self.last = from;
         if !self.is_inner(width, from) || self.marks[from] == 0 {
             return Ok(());
         }
@@ -289,40 +303,25 @@ impl TableSpread {
         self.step(width, from, Dir::NW)
     }
 
-    /// Spreads the marks from a place until none waits, and gives the place that was reached last. `width` is that of a
-    /// row of the table.
-    pub fn run(&mut self, width: usize, from: usize) -> Result<usize, NoMemory>
-        requires from { from < length self.old.marks.items }
+    /// Spreads the marks on from places that wait, so many at most, and gives how many these were: fewer only where none
+    /// waits any more.
+    pub fn run(&mut self, width: usize, most: usize) -> Result<usize, NoMemory>
         requires wide { width + 1 < length self.old.marks.items }
         requires room { HasRoom self.old.marks.items }
         ensures spreads { OnOk result (Spreads self.old.marks.items self.new.marks.items) }
-        ensures last { IfOk result (λ last. last < length self.old.marks.items) }
+        ensures few { IfOk result (λ done. done ≤ most) }
     {
-        let most = MOST_FALLS * self.marks.len();
-        self.begin(width, from)?;
-        let mut last = from;
-        for _ in 0..most {
+        for done in 0..most {
             let Some(reached) = self.take() else {
-                return Ok(last);
+                return Ok(done);
             };
             let at = reached.place as usize;
             if self.is_inner(width, at) {
                 self.relax(width, at, reached.arrived)?;
-                last = at;
+                self.last = at;
             }
         }
-        Ok(last)
-    }
-
-    /// Spreads the marks from a place until none waits.
-    pub fn run_from(&mut self, width: usize, from: usize) -> Result<(), NoMemory>
-        requires from { from < length self.old.marks.items }
-        requires wide { width + 1 < length self.old.marks.items }
-        requires room { HasRoom self.old.marks.items }
-        ensures { OnOk result (Spreads self.old.marks.items self.new.marks.items) }
-    {
-        self.run(width, from)?;
-        Ok(())
+        Ok(most)
     }
 
     /// A place far from another: of those of passable cells the last, or the first where the other is nearer to that.

@@ -21,6 +21,7 @@
 #![tactic(auto)]
 
 mod fields;
+mod half_tables;
 mod laws;
 mod marks;
 mod queues;
@@ -28,6 +29,7 @@ mod spans;
 mod tables;
 mod units;
 
+pub use half_tables::HalfTable;
 pub use laws::{
     bound_falls, bound_is_small, bound_of_one_cell, bound_of_walk, gentle_where_fewer_pass,
     span_bound_falls, span_bound_of_spanned, span_of_spans, widened_spans,

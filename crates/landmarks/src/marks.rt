@@ -1,10 +1,10 @@
 //! The marks of a field: which cells are passable, and whether the numbers of neighbours are near each other.
-ghost use Rattle.std.specs.Prelude.{Bool, ◌≡◌, ◌+◌, ◌<◌, ◌≤◌, ◌*◌, ◌^◌, ℕ, length, slice_index, IfOk, IsTrue};
+ghost use Rattle.std.specs.Prelude.{Bool, ◌≡◌, ◌+◌, ◌<◌, ◌≤◌, ◌*◌, ◌^◌, ℕ, length, slice_index, OnOk, IsTrue};
 ghost use Rattle.std.specs.Int.{abs_diff, bit_at};
 ghost use Rattle.nav_types.specs.Cells.{IsInside};
 ghost use Rattle.nav_types.specs.Rows.{bit_of};
 ghost use Rattle.landmarks.specs.Landmarks.{spot_of};
-ghost use Rattle.landmarks.specs.inner.Fields.{spots, AreMarks, AreAllGentle, IsSquareGentle, Spreads};
+ghost use Rattle.landmarks.specs.inner.Fields.{spots, AreMarks, AreGentleBefore, IsSquareGentle, Spreads};
 
 use crate::units::{DIAGONAL_UNITS, FARTHEST, STRAIGHT_UNITS};
 use nav_types::{Cell, Class, NoMemory, Rows, Size};
@@ -50,20 +50,27 @@ fn mark_row<V: Rows>(marks: &mut Vec<u16>, view: &V, class: Class, j: u16, row: 
     }
 }
 
-/// The marks where no cell is reached.
-pub fn blank_marks<V: Rows>(alloc: Global, view: &V, class: Class) -> Result<Vec<u16>, NoMemory>
+/// Marks the passable cells of the rows from one on and before another.
+pub fn mark_rows<V: Rows>(
+    alloc: Global,
+    marks: &mut Vec<u16>,
+    view: &V,
+    class: Class,
+    from: u16,
+    end: u16,
+) -> Result<(), NoMemory>
     requires class { class < V.class_count view.now }
-    ensures { IfOk result
-        (λ marks. AreMarks (V.passes view.now class) (V.extent view.now) 0 (V.extent view.now).h marks.items) }
+    requires rows { end ≤ (V.extent view.now).h }
+    requires order { from ≤ end }
+    requires before { AreMarks (V.passes view.now class) (V.extent view.now) 0 from marks.old.items }
+    ensures { OnOk result (AreMarks (V.passes view.now class) (V.extent view.now) 0 end marks.new.items) }
 {
     let size = view.size();
-    let count = (size.w as usize + 2) * (size.h as usize + 2);
-    let mut marks = vec![in alloc; 0; count]?;
     let mut row = vec![in alloc; 0; usize::from(size.w)]?;
-    for j in 0..size.h {
-        mark_row(&mut marks, view, class, j, &mut row);
+    for j in from..end {
+        mark_row(marks, view, class, j, &mut row);
     }
-    Ok(marks)
+    Ok(())
 }
 
 /// Takes back all that was reached.
@@ -77,14 +84,15 @@ pub fn clear(marks: &mut Vec<u16>)
     }
 }
 
-/// Whether each square of two by two places is gentle: its cells' numbers differ by no more than the steps between them
-/// allow. `width` is that of a row of the table.
-pub fn is_gentle(marks: &[u16], width: usize) -> bool
-    requires { width + 1 ≤ length marks.now }
-    ensures { IsTrue result → AreAllGentle width marks.now }
+/// Whether each square of two by two places from one on and before another is gentle: its cells' numbers differ by no more
+/// than the steps between them allow. `width` is that of a row of the table.
+pub fn are_gentle(marks: &[u16], width: usize, from: usize, end: usize) -> bool
+    requires order { from ≤ end }
+    requires within { end + width + 1 ≤ length marks.now }
+    ensures { IsTrue result → AreGentleBefore width from marks.now → AreGentleBefore width end marks.now }
 {
     let mut most = 0;
-    for at in 0..marks.len() - width - 1 {
+    for at in from..end {
         let above = at + width;
         let here = square_excess(marks[at], marks[at + 1], marks[above], marks[above + 1]);
         most = here.max(most);

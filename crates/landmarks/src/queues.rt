@@ -28,6 +28,15 @@ impl TableQueue {
         }
     }
 
+    /// The same places once more, without those that were taken out.
+    pub fn copy(&self, alloc: Global) -> Result<TableQueue, NoMemory> {
+        let gone = self.head.min(self.places.len());
+        Ok(TableQueue {
+            places: Vec::from_slice(alloc, &self.places.as_slice()[gone..])?,
+            head: 0,
+        })
+    }
+
     /// Puts a place behind the others.
     #[inline(always)]
     pub fn push(&mut self, reached: Reached) -> Result<(), NoMemory> {

@@ -3,12 +3,13 @@ ghost use Rattle.std.specs.Prelude.{ℕ, Bool, ◌≡◌, ◌+◌, ◌*◌, ◌<
 ghost use Rattle.nav_types.specs.declared.cells.Cell.{Cell};
 ghost use Rattle.nav_types.specs.Cells.{IsInside};
 ghost use Rattle.landmarks.specs.Landmarks.{Tables, AreGentle, landmark_bound, number_of};
-ghost use Rattle.landmarks.specs.inner.Fields.{spots, IsWritten, IsTaken, AreWhole, HasRoom, Spreads};
+ghost use Rattle.landmarks.specs.HalfTables.{IsBegun, IsTaken};
+ghost use Rattle.landmarks.specs.inner.Fields.{spots, IsWritten, AreWhole, HasRoom};
 
-use crate::fields::TableSpread;
-use crate::marks::{FREE, blank_marks, is_gentle, spot};
+use crate::half_tables::HalfTable;
+use crate::marks::spot;
 use crate::units::{FARTHEST, MAX_TABLES, UNIT_COST};
-use nav_types::{Cell, Class, NoMemory, Rows, Size};
+use nav_types::{Cell, NoMemory, Size};
 use std::alloc::Global;
 use std::marker::Model;
 
@@ -50,18 +51,16 @@ fn write_table(numbers: &mut Vec<u16>, table: usize, marks: &[u16])
     }
 }
 
-/// Writes the numbers of the marks into a table where each square of them is gentle.
-fn take_table(numbers: &mut Vec<u16>, table: usize, marks: &[u16], width: usize)
+/// Writes the numbers of a table all of whose parts are made, where its marks were found gentle.
+fn take_marks(numbers: &mut Vec<u16>, table: usize, half: &HalfTable)
     requires table { table < MAX_TABLES }
-    requires room { HasRoom marks.now }
-    requires long { length numbers.old.items ≡ MAX_TABLES * length marks.now }
-    requires wide { width + 1 ≤ length marks.now }
-    ensures { IsTaken width table marks.now numbers.old.items numbers.new.items }
+    requires long { length numbers.old.items ≡ MAX_TABLES * spots half.now.size }
+    ensures { IsTaken half.now table numbers.old.items numbers.new.items }
 {
-    if !is_gentle(marks, width) {
+    if !half.is_gentle() {
         return;
     }
-    write_table(numbers, table, marks);
+    write_table(numbers, table, half.marks());
 }
 
 impl Landmarks {
@@ -126,60 +125,31 @@ impl Landmarks {
         UNIT_COST * most as u64
     }
 
-    /// Makes one more table, by a landmark that lies far from those there are, and far from `near` where none of them is in
-    /// its area. Tables that are gentle stay so, on the map that the view shows and on each that lacks some of its steps.
-    ///
-    /// The work grows with the map's cells. Where there is no memory the tables stay as they are.
-    pub fn add<V: Rows>(
-        &mut self,
-        alloc: Global,
-        view: &V,
-        class: Class,
-        near: Cell,
-    ) -> Result<(), NoMemory>
-        requires class { class < V.class_count view.now }
-        requires near { IsInside (V.extent view.now) near }
-        requires size { self.old.size ≡ V.extent view.now }
+    /// Takes in one more table, all of whose parts are made. Where its numbers were not found gentle, all of them stay 0.
+    /// Tables that are gentle stay so, on each map of whose table the parts are.
+    pub fn take(&mut self, half: &HalfTable)
+        requires size { half.now.size ≡ self.old.size }
         requires room { self.old.made < MAX_TABLES }
         ensures size { self.new.size ≡ self.old.size }
-        ensures made { OnOk result (self.new.made ≡ self.old.made + 1) }
-        ensures gentle { AreGentle (V.passes view.now class) self.old → AreGentle (V.passes view.now class) self.new }
+        ensures made { self.new.made ≡ self.old.made + 1 }
+        ensures gentle { (passes : Cell → Bool) → IsBegun passes half.now → AreGentle passes self.old
+            → AreGentle passes self.new }
         ensures kept { (cell : Cell) (table : ℕ) → IsInside self.old.size cell → table < self.old.made
             → number_of self.new cell table ≡ number_of self.old cell table }
-        ensures err { OnErr result (self.new ≡ self.old) }
     {
-        let width = self.size.w as usize + 2;
-        let mut spread = TableSpread::over(alloc, blank_marks(alloc, view, class)?);
-        self.spread_next(&mut spread, width, spot(self.size, near))?;
-        take_table(&mut self.numbers, self.made, &spread.marks, width);
+        take_marks(&mut self.numbers, self.made, half);
         self.made += 1;
-        Ok(())
     }
 
-    /// Spreads marks of which none is reached from the next landmark.
-    fn spread_next(
-        &self,
-        spread: &mut TableSpread,
-        width: usize,
-        near: usize,
-    ) -> Result<(), NoMemory>
-        requires near { near < length spread.old.marks.items }
-        requires wide { width + 1 < length spread.old.marks.items }
-        requires long { length spread.old.marks.items ≡ spots self.now.size }
-        requires room { HasRoom spread.old.marks.items }
-        ensures { OnOk result (Spreads spread.old.marks.items spread.new.marks.items) }
+    /// The place of the next landmark, far from those there are, where one of these lies in the area of a place.
+    pub(crate) fn next_landmark(&self, near: usize) -> Option<usize>
+        requires { near < spots self.now.size }
     {
         if self.nearest(near) < FARTHEST {
-            return spread.run_from(width, self.farthest());
+            Some(self.farthest())
+        } else {
+            None
         }
-        spread.run_from(width, spread.far_from(near))?;
-        if spread.marks[near] != FREE {
-            return Ok(());
-        }
-        spread.clear();
-        let last = spread.run(width, near)?;
-        spread.clear();
-        spread.run_from(width, last)
     }
 
     /// The least of the numbers of a place in the tables that are made, which is that of the nearest landmark.

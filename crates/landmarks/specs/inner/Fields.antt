@@ -51,7 +51,7 @@ pub record IsSquareGentle (south_west south_east north_west north_east : ℕ) : 
   pub rising : 0 < south_east → 0 < north_west → AreNear DIAGONAL_UNITS south_west north_east
   pub falling : 0 < south_west → 0 < north_east → AreNear DIAGONAL_UNITS south_east north_west
 
--- each square of two by two places is gentle
+-- each square of two by two places before a place is gentle
 abbrev pub AreGentleBefore : ℕ → ℕ → List ℕ → Type 0
 AreGentleBefore width end marks = (at : ℕ) → at < end → IsSquareGentle
     (slice_index marks at) (slice_index marks (at + 1))
@@ -67,7 +67,3 @@ pub record IsWritten (table end : ℕ) (marks old new : List ℕ) : Type 0 where
   pub written : (at : ℕ) → at < end → slice_index new (MAX_TABLES * at + table) ≡ slice_index marks at - 1
   pub others : (at other : ℕ) → other < MAX_TABLES → (other < table) ⊎ (table < other)
       → slice_index new (MAX_TABLES * at + other) ≡ slice_index old (MAX_TABLES * at + other)
-
--- one table has the numbers of marks that are gentle, or nothing changed
-abbrev pub IsTaken : ℕ → ℕ → List ℕ → List ℕ → List ℕ → Type 0
-IsTaken width table marks old new = (AreAllGentle width marks × IsWritten table (length marks) marks old new) ⊎ (new ≡ old)

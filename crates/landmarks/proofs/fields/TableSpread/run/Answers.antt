@@ -5,4 +5,4 @@ use Rattle.landmarks.proofs.fields.TableSpread.run.Goals as goal
 
 pub relax-requires-clause-room : goal.relax-requires-clause-room
 relax-requires-clause-room c =
-    subst HasRoom (sym c.take.ensures) (room_after c.args.self.now.marks.items c.loop.self.marks.items c.requires.room c.loop.invariant.0)
+    subst HasRoom (sym c.take.ensures) (room_after c.args.self.now.marks.items c.loop-done.self.marks.items c.requires.room c.loop-done.invariant)

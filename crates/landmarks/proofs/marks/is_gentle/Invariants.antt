@@ -1,6 +1,0 @@
-use Rattle.std.proofs.Common.{◌≡◌}
-use Rattle.landmarks.specs.inner.Fields.{AreGentleBefore}
-use Rattle.landmarks.proofs.marks.is_gentle.Given as goal
-
-abbrev pub invariant-loop-at : goal.invariant-loop-at
-invariant-loop-at l = l.most ≡ 0 → AreGentleBefore l.width l.at l.marks
