@@ -147,7 +147,7 @@ fn join_rest(rows: &RowSpans, all: &mut Growing, place: Place, span: Span, from:
 }
 
 /// Gives the newest span a region of its own: its first cell is then the region's first.
-#[inline(always)]
+#[inline(never)]
 fn begin(all: &mut Growing, chunk: Chunk, place: Place, span: Span) -> Result<(), NoMemory>
     requires column { chunk.ci < MAX_CHUNKS_ALONG }
     requires row { chunk.cj < MAX_CHUNKS_ALONG }
