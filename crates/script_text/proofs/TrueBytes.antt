@@ -1,6 +1,5 @@
 -- What a cause says of the bytes of a line without a reading is true of them.
 use Rattle.std.proofs.Common.{◌≡◌, ◌≢◌, ℕ, zero, suc, ◌+◌, ◌<◌, ◌≤◌, ◌&&◌, ◌||◌, ◌==◌, List, [], ◌∷◌, ◌++◌, length, take, Bool, true, false, not, cond, Option, Some, None, refl, ap, sym, subst, ◌∙◌, arith, nat_lt}
-use Rattle.std.specs.Bool.{⊤}
 use Rattle.std.specs.Str.{IsUtf8, is_utf8, IsValidUpTo}
 use Rattle.std.specs.Str.Lossy.{valid_len_up_to, utf8_valid_len}
 use Rattle.std.proofs.lemmas.Bool.{false≢true, ltb-true, ltb-false}
@@ -26,7 +25,7 @@ use Rattle.script_text.specs.Causes.{is_blank, has_mark, text_cause, unread_caus
 use Rattle.script_text.specs.LineStates.{is_digit, is_of_number, is_of_word, is_escape, is_hex, is_d, number_behind, is_number, hex_from, digits_behind, half_behind, escape_behind}
 use Rattle.script_text.specs.Mistakes.{at_start, behind, look_from, mistake_by, mistake_at, mistake_outside, comma_mistake, colon_mistake, is_mismatch, closing_mistake, key_mistake, value_mistake, innermost, wants_key, ends_key, strange_byte, begins_value, ends_value, is_control, wrong_number, number_mistake, wrong_escape, escape_mistake, ending_by, told_at, broken_from, mistake_cause}
 use Rattle.script_text.specs.LargeNumbers.{starts_number, is_too_large, large_from, or_number}
-use Rattle.script_text.specs.TrueBytes.{HasNoMistake, IsOutside, Says, IsInString, IsTrueOfBytes}
+use Rattle.script_text.specs.TrueBytes.{HasNoMistake, HasNoLargeNumber, IsOutside, Says, IsInString, IsTrueOfBytes}
 use Rattle.script_text.proofs.BrokenLines.{text-causes}
 
 -- ---- one byte
@@ -282,29 +281,32 @@ true-from look k (byte ∷ bytes) = by_mistake (true-from (behind look byte) (k 
 abbrev IsLargeFrom : Look → ℕ → List ℕ → Cause → Type 0
 IsLargeFrom look k bytes (NumberTooLarge place) = (before : List ℕ) × (byte : ℕ) × (after : List ℕ) × (bytes ≡ before ++ byte ∷ after) × (place ≡ k + length before + 1)
     × (starts_number (look_from look before).standing byte ≡ true) × (is_too_large (byte ∷ after) ≡ true)
-IsLargeFrom look k bytes NotJson = ⊤
+IsLargeFrom look k bytes NotJson = HasNoLargeNumber look bytes
 IsLargeFrom look k bytes found = ⊥
 
-large-more : (look : Look) (k byte : ℕ) (bytes : List ℕ) (found : Cause) → IsLargeFrom (behind look byte) (k + 1) bytes found → IsLargeFrom look k (byte ∷ bytes) found
-large-more look k byte bytes (NumberTooLarge place) (before, other, after, parts, placed, starts, large) =
+large-more : (look : Look) (k byte : ℕ) (bytes : List ℕ) (found : Cause) → (starts_number look.standing byte && is_too_large (byte ∷ bytes)) ≡ false → IsLargeFrom (behind look byte) (k + 1) bytes found → IsLargeFrom look k (byte ∷ bytes) found
+large-more look k byte bytes (NumberTooLarge place) fits (before, other, after, parts, placed, starts, large) =
     (byte ∷ before, other, after, ap (λ l. byte ∷ l) parts, omega (arith, placed), starts, large)
-large-more look k byte bytes NotJson h = tt
-large-more look k byte bytes found h = absurd h
+large-more look k byte bytes NotJson fits h = (fits, h)
+large-more look k byte bytes found fits h = absurd h
 
 large-from : (look : Look) (k : ℕ) (bytes : List ℕ) → IsLargeFrom look k bytes (large_from look k bytes)
 large-from look k [] = tt
 large-from look k (byte ∷ bytes) = by_tests (large-from (behind look byte) (k + 1) bytes) (starts_number look.standing byte) refl (is_too_large (byte ∷ bytes)) refl
   where
+    both : starts_number look.standing byte ≡ true → is_too_large (byte ∷ bytes) ≡ false → (starts_number look.standing byte && is_too_large (byte ∷ bytes)) ≡ false
+    both starts fits = ap (λ s. s && is_too_large (byte ∷ bytes)) starts ∙ fits
+
     by_tests : IsLargeFrom (behind look byte) (k + 1) bytes (large_from (behind look byte) (k + 1) bytes) → (s : Bool) → starts_number look.standing byte ≡ s
         → (b : Bool) → is_too_large (byte ∷ bytes) ≡ b → IsLargeFrom look k (byte ∷ bytes) (cond (s && b) (NumberTooLarge (k + 1)) (large_from (behind look byte) (k + 1) bytes))
     by_tests later true starts true large = ([], byte, bytes, refl, omega arith, starts, large)
-    by_tests later true starts false fits = large-more look k byte bytes (large_from (behind look byte) (k + 1) bytes) later
-    by_tests later false other b large = large-more look k byte bytes (large_from (behind look byte) (k + 1) bytes) later
+    by_tests later true starts false fits = large-more look k byte bytes (large_from (behind look byte) (k + 1) bytes) (both starts fits) later
+    by_tests later false other b large = large-more look k byte bytes (large_from (behind look byte) (k + 1) bytes) (ap (λ s. s && is_too_large (byte ∷ bytes)) other) later
 
 true-large : (line : List ℕ) (found : Cause) → HasNoMistake at_start line → IsLargeFrom at_start 0 line found → IsTrueOfBytes line found
 true-large line (NumberTooLarge place) none (before, byte, after, parts, placed, starts, large) =
     (none, record { before = before; byte = byte; after = after; parts = parts; placed = omega (arith, placed); starts = starts; large = large })
-true-large line NotJson none h = none
+true-large line NotJson none h = (none, h)
 true-large line found none h = absurd h
 
 -- ---- what is told of the bytes of a line

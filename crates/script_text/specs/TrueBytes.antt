@@ -1,5 +1,5 @@
 -- What a cause says of the bytes of a line that has no reading.
-use Rattle.std.specs.Prelude.{ℕ, ◌≡◌, ◌+◌, ◌<◌, ◌==◌, ◌||◌, not, ⊤, List, [], ◌∷◌, ◌++◌, length, IsTrue, IsFalse, None}
+use Rattle.std.specs.Prelude.{ℕ, ◌≡◌, ◌+◌, ◌<◌, ◌==◌, ◌&&◌, ◌||◌, not, ⊤, List, [], ◌∷◌, ◌++◌, length, IsTrue, IsFalse, None}
 use Rattle.std.specs.Str.{IsValidUpTo}
 use Rattle.json.specs.Word.{is_space}
 use Rattle.script_text.specs.declared.causes.Cause.{Cause}
@@ -52,7 +52,8 @@ IsOfPair other = ⊥
 -- What a mistake says of a byte, behind what was seen of the bytes before it: the slash or number sign of a comment, the
 -- single quote, the letter N or I, the plus sign or point stand outside strings. So do the brackets, commas, colons and
 -- values: `last` is the last byte before them that is no white space, and `depth` the number of arrays and objects that
--- are open; `innermost` is the byte that opened the last of these, and `key` says that the last string is a key. Of a number and an escape it says that what was seen of it can't go on with the byte.
+-- are open; `innermost` is the byte that opened the last of these, and `key` says that the last string is a key. Of a number
+-- and an escape it says that what was seen of it can't go on with the byte.
 abbrev pub Says : Mistake → Look → ℕ → Type 0
 Says Comment look byte = IsOutside look.standing × IsTrue (byte == 47 || byte == 35)
 Says SingleQuote look byte = IsOutside look.standing × (byte ≡ 39)
@@ -95,6 +96,11 @@ pub record HasLargeNumber (line : List ℕ) (place : ℕ) : Type 0 where
   pub starts : IsTrue (starts_number (look_along before).standing byte)
   pub large : IsTrue (is_too_large (byte ∷ after))
 
+-- no number among these bytes is, behind what was seen before them
+abbrev pub HasNoLargeNumber : Look → List ℕ → Type 0
+HasNoLargeNumber look [] = ⊤
+HasNoLargeNumber look (byte ∷ bytes) = IsFalse (starts_number look.standing byte && is_too_large (byte ∷ bytes)) × HasNoLargeNumber (behind look byte) bytes
+
 -- the bytes before this place, from 1, are the longest front of the line that is UTF-8
 abbrev pub IsTextUpTo : List ℕ → ℕ → Type 0
 IsTextUpTo line place = (n : ℕ) × (place ≡ n + 1) × IsValidUpTo line n
@@ -117,5 +123,5 @@ IsTrueOfBytes line (NoJsonAt place mistake) = HasMistake line place mistake
 IsTrueOfBytes line EndsInString = HasNoMistake at_start line × IsInString (look_along line).standing
 IsTrueOfBytes line EndsInValue = HasNoMistake at_start line × (0 < (look_along line).depth)
 IsTrueOfBytes line (NumberTooLarge place) = HasNoMistake at_start line × HasLargeNumber line place
-IsTrueOfBytes line NotJson = HasNoMistake at_start line
+IsTrueOfBytes line NotJson = HasNoMistake at_start line × HasNoLargeNumber at_start line
 IsTrueOfBytes line found = ⊥
