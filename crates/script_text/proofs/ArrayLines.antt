@@ -6,9 +6,7 @@ use Rattle.script_text.specs.declared.parts.Part.{Part}
 use Rattle.script_text.specs.declared.parts.Part.TheVariants.{BeforeMap, InBase, InTurns}
 use Rattle.script_text.specs.declared.table.Form.{Form}
 use Rattle.script_text.specs.declared.table.Form.TheVariants as form
-use Rattle.script_text.specs.declared.causes.Cause.{Cause}
 use Rattle.script_text.specs.declared.causes.Cause.TheVariants.{ArrayLine}
-use Rattle.script_text.specs.Grammar.{IsObject}
 use Rattle.script_text.specs.Table.{form_of}
 use Rattle.script_text.specs.TrueCauses.{HasOneOf, keys_of_forms, HasNoForm}
 use Rattle.script_text.specs.Causes.{is_array, unknown_key, named_form, named_in, version_of, strange_cause, no_form_cause, cause_by, first_version, value_cause}
