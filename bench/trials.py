@@ -22,6 +22,7 @@ UNREAD = b"the line must be one JSON value, "
 BROKEN = (b"and ends inside a string", b"and ends inside an array or an object",
           b"with no words but true, false and null, and numbers as 0, -1.5 or 2e3")
 MISTAKE = re.compile(rb"byte ([1-9][0-9]*): ([ -~]+)")
+PASSED_OVER = (b"JSON has no NaN", b"a half of a surrogate pair")  # what Python's reader takes
 ALL_CELLS = check.Cells
 
 
@@ -108,7 +109,7 @@ def stopped_at(line):
 
 def broken_is_right(line, said):
     """Whether this may be said of a line that is no JSON value, is not blank, has no byte order mark and is not too deep: no
-    mistake is named before the place at which another reader stops."""
+    mistake is named before the place at which another reader stops, but for those that it passes over."""
     mistake = MISTAKE.fullmatch(said)
     try:
         line.decode("utf-8")
@@ -117,7 +118,7 @@ def broken_is_right(line, said):
     if not mistake:
         return said.startswith(UNREAD) and said[len(UNREAD) :] in BROKEN
     place, stopped = int(mistake[1]), stopped_at(line)
-    return place <= len(line) and (stopped is None or stopped < place)
+    return place <= len(line) and (stopped is None or stopped < place or mistake[2].startswith(PASSED_OVER))
 
 
 def cause_is_right(script, text, said):
