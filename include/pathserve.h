@@ -10,8 +10,8 @@
  *     by structs    pathserve_open_map   check, post_all, end_turn   replies, waypoints, journal
  *                   pathserve_open_grid  limit_posts
  *     to go on      pathserve_open_script, script_cause, snapshot, forget   turn_digest, view_digest
- *     to look       pathserve_view_of    passable, region, area, row, nearest, reachable, standing_at, standing, find,
- *                                        field, clear, smooth
+ *     to look       pathserve_view_of    view_size, passable, region, area, row, nearest, reachable, standing_at, standing,
+ *                                        find, field, clear, smooth
  *     to find much  pathserve_finder_open   find_with, find_within, find_all
  *
  * WHAT YOU PROMISE, for each call. The library's functions are proved to be safe and to return the statuses and results
@@ -480,6 +480,10 @@ pathserve_status pathserve_view_again(pathserve_view *from, pathserve_view *view
 
 /* Closes a view, before or after its match. Closing a closed view does nothing. */
 void pathserve_view_close(pathserve_view *view);
+
+/* How many columns and rows the map has, as `i` and `j`. Returns 1 and writes them; or returns 0 and writes nothing, for a closed
+ * view. */
+uint32_t pathserve_view_size(pathserve_view *view, pathserve_cell *size);
 
 /* For cell (i, j) and a class by its number: whether the cell is passable (1 or 0); the number of its region in its chunk,
  * which is that of column i / 96 and row j / 96; the number of its area. Two cells can be reached from each other exactly if

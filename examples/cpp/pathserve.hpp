@@ -334,6 +334,13 @@ class View {
     std::uint32_t area(std::uint32_t class_number, Cell at) { return pathserve_area(get(), class_number, at.i, at.j); }
     bool clear(std::uint32_t class_number, Cell from, Cell to) { return pathserve_clear(get(), class_number, &from, &to) != 0; }
 
+    // How many columns and rows the map has, as i and j.
+    Cell size() {
+        Cell its = {};
+        pathserve_view_size(get(), &its);
+        return its;
+    }
+
     // Which cells of row j are passable, a bit each, on a map of this width. Empty for a row off the map.
     std::vector<std::uint64_t> row(std::uint32_t class_number, std::uint32_t j, std::uint32_t width) {
         std::vector<std::uint64_t> words((width + 63) / 64);

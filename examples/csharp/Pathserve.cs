@@ -279,6 +279,7 @@ namespace Pathserve
         [DllImport(Library)] internal static extern Status pathserve_view_of(ref Handle match, ref Handle view);
         [DllImport(Library)] internal static extern Status pathserve_view_again(ref Handle from, ref Handle view);
         [DllImport(Library)] internal static extern void pathserve_view_close(ref Handle view);
+        [DllImport(Library)] internal static extern uint pathserve_view_size(ref Handle view, ref Cell size);
         [DllImport(Library)] internal static extern uint pathserve_passable(ref Handle view, uint classNumber, uint i, uint j);
         [DllImport(Library)] internal static extern uint pathserve_region(ref Handle view, uint classNumber, uint i, uint j);
         [DllImport(Library)] internal static extern uint pathserve_area(ref Handle view, uint classNumber, uint i, uint j);
@@ -621,6 +622,14 @@ namespace Pathserve
             var posts = new Post[whole];
             Native.Must(Native.pathserve_standing(ref handle, 0, posts, Native.Count(posts), ref whole));
             return posts;
+        }
+
+        /// <summary>How many columns and rows the map has, as `I` and `J`.</summary>
+        public Cell Size()
+        {
+            Cell size = new Cell();
+            Native.pathserve_view_size(ref handle, ref size);
+            return size;
         }
 
         /// <summary>The post by which caller 0 adds what stands under a number, or null.</summary>

@@ -707,6 +707,7 @@ class Python(unittest.TestCase):
                     with match.view() as view:
                         adds = [standing[number]._replace(caller=0) for number in sorted(standing)]
                         self.assertEqual(view.standing(), adds)
+                        self.assertEqual(view.size(), tuple(posted.size))
                         for number in {*standing, *(post.id for post in posts)}:
                             add = standing.get(number)
                             self.assertEqual(view.standing_at(number), add and add._replace(caller=0))
@@ -1059,6 +1060,15 @@ class Python(unittest.TestCase):
         with api.TextMatch() as match, self.assertRaises(api.Failed) as raised:
             api.native.must(match._call("limit_posts", 1))
         self.assertEqual(raised.exception.status, api.Status.OTHER)
+
+    def test_a_loaded_match_tells_the_size_of_its_map(self):
+        api = self.api
+        for size in ((1, 1), (1, 2048), (2048, 1), (97, 640)):
+            with api.PostedMatch(*size, 1, [api.PassabilityClass("walker", 0)]) as match:
+                script = match.journal()
+            with api.PostedMatch.of_script(script) as match, match.view() as view:
+                self.assertEqual(view.size(), size)
+            self.assertEqual(view.size(), (0, 0))
 
     def fed(self, match, piece: bytes) -> bool:
         """Whether a match takes a piece; else it refuses it for its limit."""

@@ -31,6 +31,10 @@ pub record AddsStanding (version : MapState) (id : ℕ) (post : FlatPost) : Type
   pub stands : fin_map.get version.standing id ≡ Some obstruction
   pub adds : IsPost version.map post 0 (Edit (Add id obstruction))
 
+-- how many columns and rows the map has
+abbrev pub IsSizeOf : MapState → FlatCell → Type 0
+IsSizeOf version flat = (flat.i ≡ version.map.size.w) × (flat.j ≡ version.map.size.h)
+
 -- What is so was said by 1, and written. Else nothing is so, 0 was said, and what was there stays.
 pub record SaysAs {A : Type 0} (Is : A → Type 0) (old new : A) (said : ℕ) : Type 0 where
   pub yes : said ≢ 0 → (said ≡ 1) × Is new

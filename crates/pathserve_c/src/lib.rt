@@ -56,7 +56,7 @@ pub use line_limits::LineLimit;
 pub use listings::pathserve_standing;
 pub use near_finds::pathserve_find_within;
 pub use openings::{OpenFault, pathserve_open_script};
-pub use questions::{pathserve_nearest, pathserve_standing_at};
+pub use questions::{pathserve_nearest, pathserve_standing_at, pathserve_view_size};
 pub use raw_box::RawBox;
 pub use sights::{pathserve_clear, pathserve_smooth};
 pub use snapshots::{pathserve_forget, pathserve_snapshot};

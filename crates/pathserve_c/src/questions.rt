@@ -4,7 +4,7 @@ ghost use Rattle.fixed_point.specs.Plane.{IsOnAxis};
 ghost use Rattle.nav_types.specs.declared.cells.Cell.{Cell};
 ghost use Rattle.flat_posts.specs.declared.posted.FlatPost.{FlatPost};
 ghost use Rattle.pathserve_c.specs.Handles.{IsHandle, state_of};
-ghost use Rattle.pathserve_c.specs.Questions.{AddsStanding, IsSaid, StartsAt, StartsIn};
+ghost use Rattle.pathserve_c.specs.Questions.{AddsStanding, IsSaid, IsSizeOf, StartsAt, StartsIn};
 
 use crate::handles::Handle;
 use crate::states::State;
@@ -13,9 +13,25 @@ use flat_posts::{FlatCell, FlatPost};
 use goal_reach::nearest_passable;
 use goal_shapes::cell_of_point;
 use grid_versions::Version;
-use nav_types::{Cell, Class};
+use nav_types::{Cell, Class, Size};
 use posts::{Edit, Post};
 use std::alloc::Global;
+
+/// How many columns and rows the map has: 1 and these, or 0 of a closed view.
+#[unsafe(no_mangle)]
+pub extern "C" fn pathserve_view_size(alloc: Global, view: &mut Handle, size: &mut FlatCell) -> u32
+    requires handle { IsHandle view.old }
+    ensures handle { IsHandle view.new }
+    ensures same { state_of view.new ≡ state_of view.old }
+    ensures said { IsSaid IsSizeOf (state_of view.old) size.old size.new result }
+{
+    let Some(state) = view.take(alloc) else {
+        return 0;
+    };
+    let said = say_size(&state, size);
+    view.put(state);
+    said
+}
 
 /// The cell in which a path of a class from the point (x, z) starts: 1 and the cell, or 0 where there is none.
 #[unsafe(no_mangle)]
@@ -59,6 +75,18 @@ pub extern "C" fn pathserve_standing_at(
     let said = say_standing(&state, id, post);
     view.put(state);
     said
+}
+
+/// Says the size of the map that a handle shows; anything else than a view says nothing.
+fn say_size(state: &State, size: &mut FlatCell) -> u32
+    ensures { IsSaid IsSizeOf (Some state.now) size.old size.new result }
+{
+    let State::View(version) = state else {
+        return 0;
+    };
+    let Size { w, h } = version.map().size();
+    *size = FlatCell { i: w, j: h };
+    1
 }
 
 /// Says where a path starts on what a handle shows; anything else than a view says nothing.

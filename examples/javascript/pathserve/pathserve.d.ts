@@ -187,6 +187,8 @@ export class View extends Owner {
   /** How a path would end, without a search: the kind of the reply that `find` gives, and the cell where it ends near its goal.
    * A post that asks for no path throws BAD_VALUE. */
   reachable(post: Post): { kind: "refused" | "nowhere" | "at-goal" | "near-goal"; end?: Cell };
+  /** How many columns and rows the map has; 0 of a closed view. */
+  size(): { width: number; height: number };
   /** The post by which caller 0 adds what stands under a number, or null. */
   standingAt(id: number): Post | null;
   /** All that stands, as the posts by which caller 0 adds it, by rising number. */

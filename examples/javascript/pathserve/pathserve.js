@@ -605,6 +605,14 @@ export class View extends Owner {
     return kind === "near-goal" ? { kind, end: this.library.cells(at, 1)[0] } : { kind };
   }
 
+  /** How many columns and rows the map has. */
+  size() {
+    const [at] = this.library.room(CELL);
+    const is_open = this.call("view_size", BigInt(at));
+    const { i: width, j: height } = is_open ? this.library.cells(at, 1)[0] : { i: 0, j: 0 };
+    return { width, height };
+  }
+
   /** The post by which caller 0 adds what stands under a number, or null. */
   standingAt(id) {
     const [at] = this.library.room(POST.size);

@@ -173,6 +173,7 @@ CALLS = {
     "row": (c_size_t, [VIEW, c_uint32, c_uint32, POINTER(c_uint64), c_size_t]),
     "nearest": (c_uint32, [VIEW, c_uint32, c_int32, c_int32, POINTER(CellStruct)]),
     "reachable": (c_uint32, [VIEW, POINTER(PostStruct), POINTER(CellStruct)]),
+    "view_size": (c_uint32, [VIEW, POINTER(CellStruct)]),
     "standing_at": (c_uint32, [VIEW, c_uint32, POINTER(PostStruct)]),
     "standing": (c_uint32, [VIEW, c_uint64, POINTER(PostStruct), c_size_t, POINTER(c_uint64)]),
     "find": (c_uint32, [VIEW, POINTER(PostStruct), POINTER(ReplyStruct), POINTER(CellStruct), c_size_t]),

@@ -95,6 +95,12 @@ class View(Owner):
         must(native.Status.DONE if kind else native.Status.BAD_VALUE)
         return Kind(kind), cell_of(cell) if kind == Kind.NEAR_GOAL else None
 
+    def size(self) -> tuple[int, int]:
+        """How many columns and rows the map has."""
+        cell = native.CellStruct()
+        self._call("view_size", cell)
+        return cell.i, cell.j
+
     def standing_at(self, number: int) -> Post | None:
         """The post by which caller 0 adds what stands under a number."""
         struct = native.PostStruct()

@@ -151,6 +151,7 @@ public static class Binding
         View view = match.View();
         Finder finder = new Finder();
         Must(view.StandingAt(7).Equals(unit) && view.StandingAt(8).Equals(square) && view.StandingAt(9) == null, "another obstruction");
+        Must(view.Size().Equals(new Cell(8, 8)), "another size");
         Must(view.Nearest(0, Navcell / 2, 3 * Navcell / 2).Value.Equals(new Cell(0, 1)) && view.Nearest(0, -1, 0) == null, "another cell");
         Cell end;
         Must(view.Reachable(Across(8), out end) == ReplyKind.AtGoal && view.Reachable(Across(9), out end) == ReplyKind.Refused, "another end");

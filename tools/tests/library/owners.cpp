@@ -119,6 +119,7 @@ void edits() {
     auto standing = view.standing();
     holds(standing.size() == 2 && is_same(standing[0], unit) && is_same(standing[1], wall), "another list of obstructions");
     holds(is_same(*view.standing_at(8), wall) && !view.standing_at(9), "another obstruction");
+    holds(view.size().i == 8 && view.size().j == 8, "another size");
     holds(view.nearest(0, {navcell / 2, 3 * navcell / 2})->j == 1 && !view.nearest(0, {-1, 0}), "another cell");
     Cell end = {9, 9};
     holds(view.reachable(across(8), end) == PATHSERVE_AT_GOAL && view.reachable(unit, end) == 0 && end.i == 9, "another end of a path");

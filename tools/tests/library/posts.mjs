@@ -81,6 +81,7 @@ function led(view, post, reply, [width, height]) {
 function looked(match, asked, replies, standing, size) {
   const view = match.view(), requests = [];
   stand(standing, asked, replies);
+  assert.deepEqual(view.size(), { width: size[0], height: size[1] });
   for (const id of new Set([...standing.keys(), ...asked.map((it) => it.id ?? 0)])) assert.deepEqual(view.standingAt(id), standing.get(id) ?? null);
   asked.forEach((post, n) => {
     if (post.kind < 5) return;

@@ -220,6 +220,7 @@ extern "C" {
     pub fn pathserve_row(view: *mut View, class_number: u32, j: u32, words: *mut u64, count: usize) -> usize;
     pub fn pathserve_nearest(view: *mut View, class_number: u32, x: i32, z: i32, cell: *mut Cell) -> u32;
     pub fn pathserve_reachable(view: *mut View, post: *const Post, cell: *mut Cell) -> u32;
+    pub fn pathserve_view_size(view: *mut View, size: *mut Cell) -> u32;
     pub fn pathserve_standing_at(view: *mut View, id: u32, post: *mut Post) -> u32;
     pub fn pathserve_standing(view: *mut View, first: u64, posts: *mut Post, count: usize, whole: *mut u64) -> u32;
     pub fn pathserve_find(

@@ -15,6 +15,7 @@ fn main() -> Result<(), Error> {
     }
     let mut view = game.view()?;
     assert_eq!((view.standing_at(1), view.standing_at(2)), (Some(add), None));
+    assert_eq!(view.size(), (12, 8));
     assert_eq!(view.nearest(0, fixed(1.5), fixed(1.5)), Some(Cell { i: 1, j: 1 }));
     assert_eq!(view.nearest(1, fixed(1.5), fixed(1.5)), None);
     assert_eq!((view.reachable(&ask), view.reachable(&add)), (Ok(PathEnd::AtGoal), Err(Error::BadValue)));

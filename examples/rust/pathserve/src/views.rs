@@ -81,6 +81,14 @@ impl View {
         }
     }
 
+    /// How many columns and rows the map has.
+    pub fn size(&mut self) -> (u32, u32) {
+        let mut size = sys::Cell::default();
+        // SAFETY: an exclusive handle.
+        unsafe { sys::pathserve_view_size(&mut self.0, &mut size) };
+        (size.i.into(), size.j.into())
+    }
+
     /// The post by which caller 0 adds what stands under a number.
     pub fn standing_at(&mut self, id: u32) -> Option<Post> {
         let mut post = sys::Post::default();
