@@ -235,14 +235,14 @@ fn parts(alloc: Global, map: &Grid, work: usize) -> Option<(u32, usize)> {
 }
 
 // The work of a part, how many parts a table of a corridor of seven cells takes, and how much of the last is left. A row of
-// the table has nine places, which are marked at once. Marks spread from six of them, which is four units of work each, and
+// the table has nine places, which are marked at once. Marks spread from six of them, which is eight units of work each, and
 // 17 squares are looked at.
 const PARTS: [(usize, u32, usize); 5] = [
-    (1_000, 1, 950),
-    (50, 1, 0),
-    (49, 2, 48),
-    (25, 2, 0),
-    (9, 6, 1),
+    (1_000, 1, 926),
+    (74, 1, 0),
+    (73, 2, 72),
+    (25, 3, 0),
+    (9, 9, 1),
 ];
 
 #[test]

@@ -17,9 +17,7 @@ use Rattle.landmarks.proofs.Bounds.{gentle_where_fewer_pass}
 use Rattle.posts.specs.Maps.{Map}
 use Rattle.grid_versions.specs.Chunks.{chunk_count}
 use Rattle.grid_versions.specs.Passing.{has_base, is_blocked, passable_at}
-use Rattle.grid_versions.specs.Versions.{MapState, passes_of}
-use Rattle.landmarks.specs.HalfTables.{Half, IsBegun}
-use Rattle.grid_versions.specs.inner.Guiding.{AreGuides, MayGuide, IsOnItsWay, Guiding, AreAllGuides}
+use Rattle.grid_versions.specs.inner.Guiding.{AreGuides, MayGuide, Guiding, AreAllGuides}
 use Rattle.grid_versions.specs.inner.Painting.{AreBaseChunks, IsBaseChunk, ArePaintedChunks, IsPaintedChunk, is_covered}
 use Rattle.grid_versions.proofs.ChunkLemmas.{AreOfChunks-weaker}
 use Rattle.grid_versions.proofs.PassingLemmas.{any_none, passable_in_words}
@@ -78,37 +76,6 @@ pub guides_of : (map : Map) (all : Guiding) (k : ℕ) (tables : Tables) → AreA
     → slice_get all.classes k ≡ Some (Some tables) → AreGuides map k tables
 guides_of map all k tables are at = are.are k (Some tables) at
 
--- tables to which one is added keep them so
-pub still_guides : (map : Map) (half : Half) (old new : Tables) → IsOnItsWay map half → new.size ≡ old.size
-    → ((passes : Cell → Bool) → IsBegun passes half → AreGentle passes old → AreGentle passes new) → AreGuides map half.class old
-    → AreGuides map half.class new
-still_guides map half old new way sized keeps guides = record {
-  size = sized ∙ guides.size;
-  gentle = keeps (passable_at map fin_map.empty half.class) way.begun guides.gentle;
-}
-
--- what is made of a table where nothing stands is right for it
-pub begun_bare : (state : MapState) (k : ℕ) (half : Half) → state.standing ≡ fin_map.empty → IsBegun (passes_of state k) half
-    → IsBegun (passable_at state.map fin_map.empty k) half
-begun_bare state k half none begun = subst (λ (s : Standing). IsBegun (passable_at state.map s k) half) none begun
-
-pub bare_begun : (state : MapState) (k : ℕ) (half : Half) → state.standing ≡ fin_map.empty
-    → IsBegun (passable_at state.map fin_map.empty k) half → IsBegun (passes_of state k) half
-bare_begun state k half none begun = subst (λ (s : Standing). IsBegun (passable_at state.map s k) half) (sym none) begun
-
--- the table on its way goes on
-pub way_of : (state : MapState) (k : ℕ) (half : Half) → state.standing ≡ fin_map.empty → half.size ≡ state.map.size → half.class ≡ k
-    → k < length state.map.classes → IsBegun (passes_of state k) half → IsOnItsWay state.map half
-way_of state k half none sized own low begun = record {
-  size = sized;
-  class = subst (λ (i : ℕ). i < length state.map.classes) (sym own) low;
-  begun = subst (λ (i : ℕ). IsBegun (passable_at state.map fin_map.empty i) half) (sym own) (begun_bare state k half none begun);
-}
-
-pub way_on : (state : MapState) (old new : Half) → state.standing ≡ fin_map.empty → IsOnItsWay state.map old → new.size ≡ old.size
-    → new.class ≡ old.class → IsBegun (passes_of state old.class) new → IsOnItsWay state.map new
-way_on state old new none way sized own begun = way_of state old.class new none (sized ∙ way.size) own way.class begun
-
 -- where no class has tables
 none_at : (count at : ℕ) (tables : Option Tables) → slice_get (replicate count None) at ≡ Some tables → tables ≡ None
 none_at count at tables here =
@@ -126,11 +93,6 @@ none_guide map all count none many =
       are = λ k tables at. subst (MayGuide map k) (sym (none_at count k tables at)) tt;
       half = tt;
     })
-
--- where another table is on its way
-pub others_on_way : (map : Map) (all : Guiding) (half : Option Half) → AreAllGuides map all → IfSome half (IsOnItsWay map)
-    → AreAllGuides map (record { classes = all.classes; half = half })
-others_on_way map all half are way = record { each = are.each; are = are.are; half = way }
 
 -- where one class has other tables
 pub others_guide : (map : Map) (all : Guiding) (k : ℕ) (new : Option Tables) → AreAllGuides map all

@@ -11,7 +11,6 @@
 //! take steps away and give none, and no edit touches them.
 ghost use Rattle.std.specs.Prelude.{ℕ, ◌≡◌, ◌<◌, ◌≤◌, ◌^◌, length, slice_get, replicate, None, Some, IfOk, IfSome};
 ghost use Rattle.std.specs.FinMap as fin_map;
-ghost use Rattle.nav_types.specs.Cells.{IsInside};
 ghost use Rattle.posts.specs.Maps.{Map};
 ghost use Rattle.grid_versions.specs.inner.Guiding.{AreGuides, MayGuide, IsOnItsWay, AreAllGuides};
 
@@ -37,7 +36,7 @@ const CELLS_A_STATE: u64 = 8;
 
 /// The work that a turn does at most for tables, in squares of two by two cells that are looked at. Two tables of 512 by 512
 /// cells take about as much.
-const WORK_A_TURN: usize = 3_200_000;
+const WORK_A_TURN: usize = 5_200_000;
 
 /// What the searches of a class go by, and what they have cost since that was made. Searches on all versions that share
 /// this are noted here. Contracts see the tables alone.

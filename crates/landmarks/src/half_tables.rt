@@ -17,7 +17,7 @@ use std::alloc::Global;
 use std::marker::Model;
 
 /// The work of spreading marks from a place, where that of marking a cell or of looking at a square is 1.
-const SPREAD_WORK: usize = 4;
+const SPREAD_WORK: usize = 8;
 
 /// What is done next for a table.
 #[derive(Clone, Copy, Debug, PartialEq, Eq)]
@@ -117,7 +117,7 @@ impl HalfTable {
     }
 
     /// Makes as much of the table as so much work makes, and leaves what is not done of this. To mark a cell or to look at a
-    /// square of two by two is one unit of it, and to spread marks from a place is four. `tables` are those there are.
+    /// square of two by two is one unit of it, and to spread marks from a place is eight. `tables` are those there are.
     pub fn gone_on<V: Rows>(
         self,
         alloc: Global,

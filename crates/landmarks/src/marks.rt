@@ -1,5 +1,5 @@
 //! The marks of a field: which cells are passable, and whether the numbers of neighbours are near each other.
-ghost use Rattle.std.specs.Prelude.{Bool, ◌≡◌, ◌+◌, ◌<◌, ◌≤◌, ◌*◌, ◌^◌, ℕ, length, slice_index, OnOk, IsTrue};
+ghost use Rattle.std.specs.Prelude.{Bool, ◌≡◌, ◌+◌, ◌<◌, ◌≤◌, ◌*◌, ◌^◌, length, OnOk, IsTrue};
 ghost use Rattle.std.specs.Int.{abs_diff, bit_at};
 ghost use Rattle.nav_types.specs.Cells.{IsInside};
 ghost use Rattle.nav_types.specs.Rows.{bit_of};
