@@ -24,6 +24,23 @@ pub trait Estimate {
         ensures most { result < 2 ^ 40 };
 }
 
+/// The octile distance to the rectangle of an aim. It is a type of its own, so that a search by it asks for nothing else.
+#[derive(Drop)]
+pub(crate) struct OctileEstimate {
+    pub rect: Rect,
+}
+
+impl Estimate for OctileEstimate {
+    ghost use Rattle.jump_search.specs.JumpStates.{octile_to};
+
+    ghost least = { λ e. octile_to e.rect };
+
+    #[inline(always)]
+    fn at_least(&self, cell: Cell) -> u64 {
+        octile_to(&self.rect, cell)
+    }
+}
+
 /// What tables of landmarks tell of the way to the cells of a span, which lie in a rectangle.
 #[derive(Drop)]
 pub struct Marked<'a> {

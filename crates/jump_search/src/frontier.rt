@@ -103,7 +103,11 @@ fn steps_within(limit: u32, cost: u64) -> u16
 /// The stop of the run from the node in the direction. None where it has none, or where a hit is known to be nearer than the
 /// stop.
 #[inline(always)]
-fn stop_of<R: Runs, A: Aim>(problem: &Problem<'_, R, A>, node: &Node, dir: Dir) -> Option<Cell>
+fn stop_of<R: Runs, A: Aim, const ALL: bool>(
+    problem: &Problem<'_, R, A, ALL>,
+    node: &Node,
+    dir: Dir,
+) -> Option<Cell>
     requires class { problem.now.class < R.class_count problem.now.runs.now }
     requires start { IsTrue (R.passes problem.now.runs.now problem.now.class node.now.state.cell) }
     requires aim { A.sound problem.now.aim.now (R.extent problem.now.runs.now) }
@@ -241,22 +245,21 @@ impl Frontier {
     /// Adds a node whose state has none, and lets it wait. Where the search is not for all, nodes of its cell that cost more
     /// no longer do.
     #[inline(never)]
-    fn insert_and_prune<E: Estimate>(
+    fn insert_and_prune<E: Estimate, const ALL: bool>(
         &mut self,
         ahead: &E,
-        all: bool,
         node: Node,
     ) -> Result<(), NoMemory>
         requires lacks { LacksState self.old.nodes node.state }
         requires waits { map.get self.old.waiting (length self.old.nodes) ≡ None }
         requires low { node.cost < 2 ^ 63 }
         ensures nodes { OnOk result (self.new.nodes ≡ self.old.nodes ++ node ∷ []) }
-        ensures waiting { OnOk result (Drops all self.new.nodes
+        ensures waiting { OnOk result (Drops ALL self.new.nodes
             (map.insert self.old.waiting (length self.old.nodes) (estimate_of (E.least ahead.now) node)) self.new.waiting) }
         ensures few { OnOk result (length self.new.nodes ≤ 2 ^ 32) }
     {
         let number = self.insert_node(ahead, node)?;
-        if !all {
+        if !ALL {
             let end = self.nodes.before(number);
             self.prune_dominated(end, node.state.cell, node.cost);
         }
@@ -354,11 +357,10 @@ impl Frontier {
     /// Notes that a jump leads to the node's state at its cost and with its last run. Where the search is not for all,
     /// the jump is left if a node of its cell that costs less is found before that of the state.
     #[inline(always)]
-    fn offer<E: Estimate>(
+    fn offer<E: Estimate, const ALL: bool>(
         &mut self,
         ahead: &E,
         dir: Dir,
-        all: bool,
         node: Node,
     ) -> Result<(), NoMemory>
         requires arrived { node.state.arrived ≡ Some dir }
@@ -366,17 +368,17 @@ impl Frontier {
         requires low { node.cost < 2 ^ 63 }
         requires queued { (all : Bool) × ((floor : ℕ)
             × (IsQueued all (E.least ahead.now) floor self.old.nodes self.old.waiting × (floor ≤ estimate_of (E.least ahead.now) node))) }
-        ensures { OnOk result (Notes all (E.least ahead.now) node self.old.nodes self.new.nodes self.old.waiting
+        ensures { OnOk result (Notes ALL (E.least ahead.now) node self.old.nodes self.new.nodes self.old.waiting
             self.new.waiting) }
     {
-        match self.nodes.look_up(node.state, bound_of(all, node.cost)) {
+        match self.nodes.look_up(node.state, bound_of(ALL, node.cost)) {
             Lookup::Dominated => Ok(()),
             Lookup::Known(number) => {
-                self.relax(ahead, dir, all, number, node)?;
+                self.relax(ahead, dir, ALL, number, node)?;
                 Ok(())
             }
             Lookup::New => {
-                self.insert_and_prune(ahead, all, node)?;
+                self.insert_and_prune::<E, ALL>(ahead, node)?;
                 Ok(())
             }
         }
@@ -386,9 +388,9 @@ impl Frontier {
     /// where a hit is known to be nearer, and, where the search is not for all, one to a state that is dominated by a node of
     /// its cell.
     #[inline(always)]
-    fn follow_along<R: Runs, A: Aim, E: Estimate>(
+    fn follow_along<R: Runs, A: Aim, E: Estimate, const ALL: bool>(
         &mut self,
-        problem: &Problem<'_, R, A>,
+        problem: &Problem<'_, R, A, ALL>,
         ahead: &E,
         node: &Node,
         dirs: DirSet,
@@ -402,14 +404,14 @@ impl Frontier {
         requires aim { A.sound problem.now.aim.now (R.extent problem.now.runs.now) }
         requires limit { IfSome problem.now.limit (IsCostToHit (R.passes problem.now.runs.now problem.now.class)
             (A.hit problem.now.aim.now (R.extent problem.now.runs.now)) problem.now.start) }
-        requires followable { IsFollowable problem.now.all (R.passes problem.now.runs.now problem.now.class)
+        requires followable { IsFollowable ALL (R.passes problem.now.runs.now problem.now.class)
             (A.hit problem.now.aim.now (R.extent problem.now.runs.now)) (E.least ahead.now)
             node.now.state node.now.cost self.old.nodes self.old.waiting }
-        ensures follows { OnOk result (Follows problem.now.all (R.passes problem.now.runs.now problem.now.class)
+        ensures follows { OnOk result (Follows ALL (R.passes problem.now.runs.now problem.now.class)
             (A.hit problem.now.aim.now (R.extent problem.now.runs.now)) problem.now.start (E.least ahead.now)
             node.now.state node.now.cost
             (λ other. other ≡ dir) self.old.nodes self.new.nodes self.old.waiting self.new.waiting) }
-        ensures followable { OnOk result (IsFollowable problem.now.all (R.passes problem.now.runs.now problem.now.class)
+        ensures followable { OnOk result (IsFollowable ALL (R.passes problem.now.runs.now problem.now.class)
             (A.hit problem.now.aim.now (R.extent problem.now.runs.now))
             (E.least ahead.now) node.now.state node.now.cost self.new.nodes self.new.waiting) }
     {
@@ -420,15 +422,15 @@ impl Frontier {
             return Ok(());
         };
         let next = landed(node, dir, stop);
-        self.offer(ahead, dir, problem.all, next)?;
+        self.offer::<E, ALL>(ahead, dir, next)?;
         Ok(())
     }
 
     /// Follows each jump from the node, or leaves it, where a hit is known to be nearer, or where the search is not for all
     /// and the jump leads to a state that is dominated by a node of its cell.
-    pub(crate) fn follow<R: Runs, A: Aim, E: Estimate>(
+    pub(crate) fn follow<R: Runs, A: Aim, E: Estimate, const ALL: bool>(
         &mut self,
-        problem: &Problem<'_, R, A>,
+        problem: &Problem<'_, R, A, ALL>,
         ahead: &E,
         node: &Node,
     ) -> Result<(), NoMemory>
@@ -437,10 +439,10 @@ impl Frontier {
         requires aim { A.sound problem.now.aim.now (R.extent problem.now.runs.now) }
         requires limit { IfSome problem.now.limit (IsCostToHit (R.passes problem.now.runs.now problem.now.class)
             (A.hit problem.now.aim.now (R.extent problem.now.runs.now)) problem.now.start) }
-        requires followable { IsFollowable problem.now.all (R.passes problem.now.runs.now problem.now.class)
+        requires followable { IsFollowable ALL (R.passes problem.now.runs.now problem.now.class)
             (A.hit problem.now.aim.now (R.extent problem.now.runs.now)) (E.least ahead.now)
             node.now.state node.now.cost self.old.nodes self.old.waiting }
-        ensures { OnOk result (Follows problem.now.all (R.passes problem.now.runs.now problem.now.class)
+        ensures { OnOk result (Follows ALL (R.passes problem.now.runs.now problem.now.class)
             (A.hit problem.now.aim.now (R.extent problem.now.runs.now)) problem.now.start (E.least ahead.now)
             node.now.state node.now.cost
             (λ other. Unit {0}) self.old.nodes self.new.nodes self.old.waiting self.new.waiting) }

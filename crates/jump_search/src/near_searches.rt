@@ -2,8 +2,8 @@
 ghost use Rattle.std.specs.Prelude.{◌≡◌, ◌<◌, ◌≤◌, ◌⊎◌, ℕ, Some, IsTrue, IfSome, IfNone, IfOk};
 ghost use Rattle.std.specs.FinMap as map;
 ghost use Rattle.open_heap.specs.Queue.{IsLeast};
-ghost use Rattle.jump_search.specs.Estimates.{IsConsistent, IsEstimate, least_ahead};
-ghost use Rattle.jump_search.specs.JumpStates.{CanSearch};
+ghost use Rattle.jump_search.specs.Estimates.{IsConsistent, IsEstimate};
+ghost use Rattle.jump_search.specs.JumpStates.{octile_to, CanSearch};
 ghost use Rattle.jump_search.specs.Questions.{Asked};
 ghost use Rattle.jump_search.specs.Within.{FindsWithin, IsAnswerWithin};
 ghost use Rattle.jump_search.specs.inner.Nearby.{HasEndedWithin, IsHaltedWithin};
@@ -11,7 +11,7 @@ ghost use Rattle.jump_search.specs.inner.Searched.{IsCostToHit};
 ghost use Rattle.jump_search.specs.inner.Underway.{IsNotPast, IsPast};
 
 use crate::bounded_aims::BoundedAim;
-use crate::estimates::{Estimate, TargetEstimate};
+use crate::estimates::{Estimate, OctileEstimate};
 use crate::frontier::Frontier;
 use crate::looks::looked;
 use crate::problems::{Problem, Question};
@@ -48,9 +48,9 @@ fn next_within(search: &Search, frontier: &mut Frontier, most: u64) -> Option<En
 /// Searches from the start until no node is left within the cost of the best hit and the greatest cost. Each node that is
 /// opened is one tick.
 #[inline(always)]
-fn searched_within<R: Runs, A: Aim, E: Estimate, L: Ledger>(
+fn searched_within<R: Runs, A: Aim, E: Estimate, L: Ledger, const ALL: bool>(
     frontier: &mut Frontier,
-    problem: &Problem<'_, R, A>,
+    problem: &Problem<'_, R, A, ALL>,
     ahead: &E,
     most: u64,
     ticks: &mut Ticks<L>,
@@ -62,31 +62,32 @@ fn searched_within<R: Runs, A: Aim, E: Estimate, L: Ledger>(
     requires aim { A.sound problem.now.aim.now (R.extent problem.now.runs.now) }
     requires ahead { IsConsistent (R.passes problem.now.runs.now problem.now.class) (A.hit problem.now.aim.now
         (R.extent problem.now.runs.now)) (E.least ahead.now) }
-    ensures ended { IfOk result (λ search. HasEndedWithin problem.now.all
+    ensures ended { IfOk result (λ search. HasEndedWithin ALL
         (R.passes problem.now.runs.now problem.now.class) (A.hit problem.now.aim.now
         (R.extent problem.now.runs.now)) problem.now.start (E.least ahead.now) most frontier.new.nodes search.best) }
-    ensures halted { IsHaltedWithin problem.now.all (R.passes problem.now.runs.now problem.now.class)
+    ensures halted { IsHaltedWithin ALL (R.passes problem.now.runs.now problem.now.class)
         (A.hit problem.now.aim.now (R.extent problem.now.runs.now)) problem.now.start (E.least ahead.now) most
         ticks.old ticks.new }
 {
     let mut search = Search::new(frontier, ahead, problem.start)?;
     'search: while let Some(entry) = next_within(&search, frontier, most) {
-        search.take(frontier, problem, ahead, entry, ticks)?;
+        search.take::<R, A, E, L, ALL>(frontier, problem, ahead, entry, ticks)?;
     }
     Ok(search)
 }
 
 /// The octile distances to the rectangle of a question's aim.
-pub(crate) fn octile_of<'q, R: Runs, A: Aim>(question: &Question<'_, R, A>) -> TargetEstimate<'q>
+pub(crate) fn octile_of<R: Runs, A: Aim>(question: &Question<'_, R, A>) -> OctileEstimate
     requires { CanSearch (R.passes question.now.runs.now question.now.class)
         (A.hit question.now.aim.now (R.extent question.now.runs.now))
         (A.sound question.now.aim.now (R.extent question.now.runs.now)) question.now.start }
     ensures { IsEstimate (R.passes question.now.runs.now question.now.class)
         (A.hit question.now.aim.now (R.extent question.now.runs.now))
         (A.framed question.now.aim.now (R.extent question.now.runs.now)) (R.extent question.now.runs.now)
-        (least_ahead result) }
+        (octile_to result.rect) }
 {
-    TargetEstimate::Octile(question.aim.bounds(question.runs.size()))
+    let rect = question.aim.bounds(question.runs.size());
+    OctileEstimate { rect }
 }
 
 /// The answer of a search by an estimate, where it costs at most `most`, and None exactly where it costs more.
@@ -123,13 +124,12 @@ pub(crate) fn found_within<R: Runs, A: Aim, E: Estimate, L: Ledger>(
         rect: question.aim.bounds(question.runs.size()),
     };
     let (runs, class, start) = (question.runs, question.class, question.start);
-    let within = Problem {
+    let within = Problem::<R, BoundedAim<'_, A>, false> {
         runs,
         class,
         start,
         aim: &framed,
         limit: looked(runs, class, start, &framed, &framed.rect),
-        all: false,
     };
     let search = searched_within(&mut pool.frontier, &within, ahead, most, ticks)?;
     let Some(best) = search.best else {

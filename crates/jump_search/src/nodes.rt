@@ -19,10 +19,10 @@ const ROOM: usize = 16384;
 #[derive(Clone, Copy)]
 pub struct Node {
     pub state: JumpState,
+    /// How many steps the last of the jumps has that lead to the state at its cost; 0 at the start.
+    pub run: u16,
     /// The least cost of jumps to the state that is known.
     pub cost: u64,
-    /// How many steps the last of these jumps has; 0 at the start.
-    pub run: u16,
     /// Whether its jumps have been followed.
     pub opened: bool,
 }

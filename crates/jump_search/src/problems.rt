@@ -21,14 +21,13 @@ pub struct Guided<'q, R: Runs, A: Aim, E: Estimate> {
 }
 
 /// What is searched: a map that answers runs, a class of it, the cell from which the search goes, the cells that it looks
-/// for, what some walk to one of them costs, where one is known, and whether each jump state within the cost of the answer
-/// is opened.
+/// for, and what some walk to one of them costs, where one is known. Where it is for `ALL`, each jump state within the cost of
+/// the answer is opened.
 #[derive(Drop)]
-pub(crate) struct Problem<'a, R: Runs, A: Aim> {
+pub(crate) struct Problem<'a, R: Runs, A: Aim, const ALL: bool> {
     pub runs: &'a R,
     pub class: Class,
     pub start: Cell,
     pub aim: &'a A,
     pub limit: Option<u32>,
-    pub all: bool,
 }

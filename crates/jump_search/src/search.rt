@@ -10,7 +10,7 @@ ghost use Rattle.jump_search.specs.Questions.{Asked, CountsFor, IsAnswerTo, Trac
 ghost use Rattle.jump_search.specs.inner.Traced.{IsTraceable};
 
 use crate::bounded_aims::BoundedAim;
-use crate::estimates::{Estimate, TargetEstimate};
+use crate::estimates::{Estimate, OctileEstimate};
 use crate::frontier::Frontier;
 use crate::looks::looked;
 use crate::near_searches::{found_within, octile_of, uncounted_within};
@@ -112,12 +112,11 @@ pub(crate) fn found_at_start<R: Runs, A: Aim>(
 }
 
 /// The answer of a search by an estimate, which is for all jump states within the cost or not.
-fn answered<R: Runs, A: Aim, E: Estimate, L: Ledger>(
+fn answered<R: Runs, A: Aim, E: Estimate, L: Ledger, const ALL: bool>(
     frontier: &mut Frontier,
     alloc: Global,
     question: &Question<'_, R, A>,
     ahead: &E,
-    all: bool,
     ticks: &mut Ticks<L>,
 ) -> Result<Traced, NoMemory>
     requires class { question.now.class < R.class_count question.now.runs.now }
@@ -131,7 +130,7 @@ fn answered<R: Runs, A: Aim, E: Estimate, L: Ledger>(
     ensures answer { IfOk result (λ traced. IsAnswer (R.passes question.now.runs.now question.now.class)
         question.now.start (A.hit question.now.aim.now (R.extent question.now.runs.now))
         traced.found.end traced.found.cost.0 traced.found.waypoints) }
-    ensures opened { IfOk result (λ traced. IsTrue all → (rect : Rect) → E.least ahead.now ≡ octile_to rect
+    ensures opened { IfOk result (λ traced. IsTrue ALL → (rect : Rect) → E.least ahead.now ≡ octile_to rect
         → Counts (IsOpened (R.passes question.now.runs.now question.now.class)
         (A.hit question.now.aim.now (R.extent question.now.runs.now)) question.now.start rect traced.found.cost.0)
         traced.opened) }
@@ -146,13 +145,12 @@ fn answered<R: Runs, A: Aim, E: Estimate, L: Ledger>(
         rect: question.aim.bounds(question.runs.size()),
     };
     let (runs, class, start) = (question.runs, question.class, question.start);
-    let within = Problem {
+    let within = Problem::<R, BoundedAim<'_, A>, ALL> {
         runs,
         class,
         start,
         aim: &framed,
         limit: looked(runs, class, start, &framed, &framed.rect),
-        all,
     };
     let search = searched(frontier, &within, ahead, ticks)?;
     let Some(best) = search.best else {
@@ -166,11 +164,10 @@ fn answered<R: Runs, A: Aim, E: Estimate, L: Ledger>(
 }
 
 /// The answer of a search by octile distances, which is for all jump states within the cost or not.
-fn by_octile<R: Runs, A: Aim, L: Ledger>(
+fn by_octile<R: Runs, A: Aim, L: Ledger, const ALL: bool>(
     frontier: &mut Frontier,
     alloc: Global,
     question: &Question<'_, R, A>,
-    all: bool,
     ticks: &mut Ticks<L>,
 ) -> Result<Traced, NoMemory>
     requires class { question.now.class < R.class_count question.now.runs.now }
@@ -180,7 +177,7 @@ fn by_octile<R: Runs, A: Aim, L: Ledger>(
     ensures answer { IfOk result (λ traced. IsAnswer (R.passes question.now.runs.now question.now.class)
         question.now.start (A.hit question.now.aim.now (R.extent question.now.runs.now))
         traced.found.end traced.found.cost.0 traced.found.waypoints) }
-    ensures opened { IfOk result (λ traced. IsTrue all → CountsOpened
+    ensures opened { IfOk result (λ traced. IsTrue ALL → CountsOpened
         (R.passes question.now.runs.now question.now.class)
         (A.hit question.now.aim.now (R.extent question.now.runs.now)) (A.framed question.now.aim.now
         (R.extent question.now.runs.now)) (R.extent question.now.runs.now) question.now.start
@@ -192,12 +189,11 @@ fn by_octile<R: Runs, A: Aim, L: Ledger>(
         question.now.start ticks.old ticks.new }
 {
     let rect = question.aim.bounds(question.runs.size());
-    answered(
+    answered::<R, A, OctileEstimate, L, ALL>(
         frontier,
         alloc,
         question,
-        &TargetEstimate::Octile(rect),
-        all,
+        &OctileEstimate { rect },
         ticks,
     )
 }
@@ -225,7 +221,12 @@ fn uncounted<R: Runs, A: Aim, L: Ledger>(
       size = R.extent question.now.runs.now;
     } in IfOk result (λ traced. IsAnswerTo asked traced.found × (IsTrue all → CountsFor asked traced)) }
 {
-    by_octile(frontier, alloc, question, all, &mut Ticks::<L>::new(blank))
+    let ticks = &mut Ticks::<L>::new(blank);
+    if all {
+        by_octile::<R, A, L, true>(frontier, alloc, question, ticks)
+    } else {
+        by_octile::<R, A, L, false>(frontier, alloc, question, ticks)
+    }
 }
 
 /// The same answer to a guided question for a caller who counts no ticks, which are those of a ledger of its own.
@@ -251,14 +252,7 @@ fn uncounted_by<R: Runs, A: Aim, E: Estimate, L: Ledger>(
         traced.found.end traced.found.cost.0 traced.found.waypoints) }
 {
     let ticks = &mut Ticks::<L>::new(blank);
-    answered(
-        frontier,
-        alloc,
-        &guided.question,
-        guided.ahead,
-        false,
-        ticks,
-    )
+    answered::<R, A, E, L, false>(frontier, alloc, &guided.question, guided.ahead, ticks)
 }
 
 /// Jump searches for the answer to a question, which is the chosen walk from its start to the first in cell order of the
@@ -361,7 +355,7 @@ impl<'q, R: Runs, A: Aim> JumpSearch for Question<'q, R, A> {
         alloc: Global,
         ticks: &mut Ticks<L>,
     ) -> Result<Traced, NoMemory> {
-        by_octile(&mut pool.frontier, alloc, self, true, ticks)
+        by_octile::<R, A, L, true>(&mut pool.frontier, alloc, self, ticks)
     }
 
     fn jump_find_in<L: Ledger>(
@@ -374,7 +368,7 @@ impl<'q, R: Runs, A: Aim> JumpSearch for Question<'q, R, A> {
             pool.opened = 0;
             return Ok(found);
         }
-        let traced = by_octile(&mut pool.frontier, alloc, self, false, ticks)?;
+        let traced = by_octile::<R, A, L, false>(&mut pool.frontier, alloc, self, ticks)?;
         pool.opened = traced.opened;
         Ok(traced.found)
     }
@@ -416,7 +410,7 @@ impl<'q, R: Runs, A: Aim> JumpSearch for Question<'q, R, A> {
         most: u64,
     ) -> Result<Option<Found>, NoMemory> {
         let ahead = octile_of(self);
-        uncounted_within::<R, A, TargetEstimate<'_>, Brand>(
+        uncounted_within::<R, A, OctileEstimate, Brand>(
             pool,
             alloc,
             self,
@@ -469,7 +463,13 @@ impl<'q, R: Runs, A: Aim, E: Estimate> JumpSearch for Guided<'q, R, A, E> {
             pool.opened = 0;
             return Ok(found);
         }
-        let traced = answered(&mut pool.frontier, alloc, question, *ahead, false, ticks)?;
+        let traced = answered::<R, A, E, L, false>(
+            &mut pool.frontier,
+            alloc,
+            question,
+            *ahead,
+            ticks,
+        )?;
         pool.opened = traced.opened;
         Ok(traced.found)
     }

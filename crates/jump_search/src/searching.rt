@@ -111,6 +111,7 @@ impl Search {
 
     /// Takes the next entry from the open list, where its estimate is not past the best hit's cost. None where the
     /// search has ended.
+    #[inline(always)]
     pub(crate) fn next(&self, frontier: &mut Frontier) -> Option<Entry>
         ensures nodes { frontier.new.nodes ≡ frontier.old.nodes }
         ensures least { IfSome result (IsLeast frontier.old.waiting) }
@@ -129,10 +130,10 @@ impl Search {
     }
 
     /// Opens the node of an entry that was taken from the open list, with one tick.
-    pub(crate) fn take<R: Runs, A: Aim, E: Estimate, L: Ledger>(
+    pub(crate) fn take<R: Runs, A: Aim, E: Estimate, L: Ledger, const ALL: bool>(
         &mut self,
         frontier: &mut Frontier,
-        problem: &Problem<'_, R, A>,
+        problem: &Problem<'_, R, A, ALL>,
         ahead: &E,
         entry: Entry,
         ticks: &mut Ticks<L>,
@@ -144,15 +145,15 @@ impl Search {
         requires limit { IfSome problem.now.limit (IsCostToHit (R.passes problem.now.runs.now problem.now.class)
             (A.hit problem.now.aim.now (R.extent problem.now.runs.now)) problem.now.start) }
         requires start { IsTrue (R.passes problem.now.runs.now problem.now.class problem.now.start) }
-        requires taken { (floor : ℕ) × IsTaken problem.now.all (R.passes problem.now.runs.now problem.now.class)
+        requires taken { (floor : ℕ) × IsTaken ALL (R.passes problem.now.runs.now problem.now.class)
             (A.hit problem.now.aim.now (R.extent problem.now.runs.now)) problem.now.start (E.least ahead.now) floor
             frontier.old.nodes frontier.old.waiting self.old.best entry }
         requires opened { self.old.opened ≡ opened_count frontier.old.nodes }
         ensures underway { OnOk result ((floor : ℕ)
-            → IsTaken problem.now.all (R.passes problem.now.runs.now problem.now.class) (A.hit problem.now.aim.now
+            → IsTaken ALL (R.passes problem.now.runs.now problem.now.class) (A.hit problem.now.aim.now
             (R.extent problem.now.runs.now)) problem.now.start (E.least ahead.now) floor
             frontier.old.nodes frontier.old.waiting self.old.best entry
-            → IsUnderway problem.now.all (R.passes problem.now.runs.now problem.now.class)
+            → IsUnderway ALL (R.passes problem.now.runs.now problem.now.class)
             (A.hit problem.now.aim.now (R.extent problem.now.runs.now)) problem.now.start (E.least ahead.now)
             entry.estimate
             frontier.new.nodes frontier.new.waiting self.new.best) }
@@ -166,7 +167,7 @@ impl Search {
             ..*frontier.nodes.at(entry.key)
         };
         frontier.nodes.put(entry.key, node);
-        frontier.follow(problem, ahead, &node)?;
+        frontier.follow::<R, A, E, ALL>(problem, ahead, &node)?;
         self.best = best_with(problem.runs, problem.aim, self.best, &node);
         self.opened += 1;
         ticks.tick();
@@ -180,9 +181,9 @@ impl Search {
 ///
 /// Each node that is opened is one tick.
 #[inline(always)]
-pub(crate) fn searched<R: Runs, A: Aim, E: Estimate, L: Ledger>(
+pub(crate) fn searched<R: Runs, A: Aim, E: Estimate, L: Ledger, const ALL: bool>(
     frontier: &mut Frontier,
-    problem: &Problem<'_, R, A>,
+    problem: &Problem<'_, R, A, ALL>,
     ahead: &E,
     ticks: &mut Ticks<L>,
 ) -> Result<Search, NoMemory>
@@ -193,19 +194,19 @@ pub(crate) fn searched<R: Runs, A: Aim, E: Estimate, L: Ledger>(
     requires aim { A.sound problem.now.aim.now (R.extent problem.now.runs.now) }
     requires ahead { IsConsistent (R.passes problem.now.runs.now problem.now.class) (A.hit problem.now.aim.now
         (R.extent problem.now.runs.now)) (E.least ahead.now) }
-    ensures ended { IfOk result (λ search. HasEnded problem.now.all
+    ensures ended { IfOk result (λ search. HasEnded ALL
         (R.passes problem.now.runs.now problem.now.class) (A.hit problem.now.aim.now
         (R.extent problem.now.runs.now)) problem.now.start (E.least ahead.now) frontier.new.nodes search.best) }
     ensures opened { IfOk result (λ search. search.opened ≡ opened_count frontier.new.nodes) }
     ensures ticks { IfOk result (λ search. ticks.new ≡ ticks.old + search.opened) }
     ensures halted { OnErr result ((ticks.new ≡ ticks.old) ⊎ ((nodes : List Node)
-        × ((floor : ℕ) × (IsHalted problem.now.all (R.passes problem.now.runs.now problem.now.class)
+        × ((floor : ℕ) × (IsHalted ALL (R.passes problem.now.runs.now problem.now.class)
         (A.hit problem.now.aim.now (R.extent problem.now.runs.now)) problem.now.start (E.least ahead.now) floor nodes
         × (ticks.new ≡ ticks.old + opened_count nodes))))) }
 {
     let mut search = Search::new(frontier, ahead, problem.start)?;
     'search: while let Some(entry) = search.next(frontier) {
-        search.take(frontier, problem, ahead, entry, ticks)?;
+        search.take::<R, A, E, L, ALL>(frontier, problem, ahead, entry, ticks)?;
     }
     Ok(search)
 }

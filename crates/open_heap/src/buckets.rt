@@ -84,6 +84,7 @@ pub fn place_of(entries: &[Entry], estimate: u64) -> usize
 }
 
 /// Appends the entry before the number `end`, and those that are linked from there.
+#[inline(always)]
 pub fn gather(later: &[Waiting], end: u32, here: &mut Vec<Entry>)
     requires chain { (start : ℕ) × ((bucket : ℕ) × IsChain start later.now bucket end) }
     requires room { vec_len here.old + end ≤ vec_capacity here.old }
@@ -128,6 +129,7 @@ pub fn make_places(heads: &mut Vec<u32>, bucket: usize) -> Result<(), NoMemory>
 }
 
 /// Puts entries in the order of falling estimates. Most buckets of a search in narrow ways have one entry.
+#[inline(always)]
 pub fn sort_falling(entries: &mut Vec<Entry>)
     ensures falling { AreFalling entries.new.items }
     ensures same { (entry : Entry) → Contains entries.new.items entry ↔ Contains entries.old.items entry }

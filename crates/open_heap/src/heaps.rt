@@ -148,6 +148,7 @@ impl OpenHeap {
     }
 
     /// Takes out an entry of least estimate. It takes no memory.
+    #[inline(always)]
     pub fn pop_least(&mut self) -> Option<Entry>
         ensures least { IfSome result (IsLeast self.old) }
         ensures rest { IfSome result (λ entry. self.new ≡ map.remove self.old entry.key) }

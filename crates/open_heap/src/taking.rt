@@ -186,6 +186,7 @@ impl Buckets {
     }
 
     /// The last entry of the current bucket, where there is one that is its key's. Those behind it are taken out.
+    #[inline(always)]
     fn last_live(&mut self, estimates: &[Option<u64>]) -> Option<Entry>
         ensures live { IfSome result (IsLive estimates.now) }
         ensures last { IfSome result (λ entry. slice_get self.new.here.items (length self.new.here.items - 1)
@@ -208,6 +209,7 @@ impl Buckets {
     }
 
     /// The first of the later buckets that has entries.
+    #[inline(always)]
     fn next_bucket(&self) -> Option<usize>
         ensures some { IfSome result (λ bucket. (self.now.reached ≤ bucket) × (bucket < length self.now.heads.items)) }
         ensures first { IfSome result (λ bucket. (other : ℕ) → self.now.reached ≤ other → other < bucket
@@ -224,6 +226,7 @@ impl Buckets {
     }
 
     /// Makes a later bucket the current one, where all before it are empty.
+    #[inline(always)]
     fn take_bucket(&mut self, bucket: usize)
         requires done { self.old.here.items ≡ [] }
         requires later { self.old.reached ≤ bucket }
@@ -240,6 +243,7 @@ impl Buckets {
     }
 
     /// An entry of least estimate of those that are their keys'. Those found before it that are not are taken out.
+    #[inline(always)]
     pub fn least(&mut self, estimates: &[Option<u64>]) -> Option<Entry>
         ensures live { IfSome result (IsLive estimates.now) }
         ensures last { IfSome result (λ entry. slice_get self.new.here.items (length self.new.here.items - 1)

@@ -9,5 +9,5 @@ returns g c =
     let q = c.args.question.now in
     let known = begins g.R.View.extent g.R.View.passes g.A.Aim.sound g.A.Aim.hit g.A.Aim.framed g.met.R.View.within
     g.met.A.Aim.hits_framed q.runs.now q.class q.aim.now q.start c.requires in
-    let frame = subst (λ s. IsFrame (g.A.Aim.framed q.aim.now s) s c.bounds.result) c.size.ensures c.bounds.ensures in
-    octile_estimate _ _ _ _ c.bounds.result known.within known.hits_framed frame
+    let frame = subst (λ s. IsFrame (g.A.Aim.framed q.aim.now s) s c.bounds-rect.result) c.size.ensures c.bounds-rect.ensures in
+    octile_estimate _ _ _ _ c.bounds-rect.result known.within known.hits_framed frame

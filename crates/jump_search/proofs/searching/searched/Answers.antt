@@ -1,4 +1,4 @@
-use Rattle.std.proofs.Common.{ℕ, ◌≡◌, ◌+◌, ◌⊎◌, List, inr, sym, ap, subst, ◌∙◌, arith}
+use Rattle.std.proofs.Common.{ℕ, ◌≡◌, ◌+◌, ◌⊎◌, List, inr, sym, ap, subst, ◌∙◌, arith, not, eqb}
 use Rattle.jump_search.specs.declared.nodes.Node.{Node}
 use Rattle.jump_search.specs.inner.Underway.{opened_count, IsTaken, IsHalted, HasEnded}
 use Rattle.jump_search.proofs.Relaxing.{count_most}
@@ -11,10 +11,10 @@ search-init g c =
     let hit = g.A.Aim.hit c.args.problem.now.aim.now (g.R.View.extent c.args.problem.now.runs.now) in
     let made = c.in_ok-search.ensures in
     let none = made.none in
-    record { underway = (0, made.underway c.args.problem.now.all passes hit); opened = made.opened; ticks = omega (arith, none) }
+    record { underway = (0, made.underway (not (eqb g.row.ALL 0)) passes hit); opened = made.opened; ticks = omega (arith, none) }
 
-pub take-requires-clause-taken : goal.take-requires-clause-taken
-take-requires-clause-taken g c =
+pub take-requires : goal.take-requires
+take-requires g c =
     let passes = g.R.View.passes c.args.problem.now.runs.now c.args.problem.now.class in
     let hit = g.A.Aim.hit c.args.problem.now.aim.now (g.R.View.extent c.args.problem.now.runs.now) in
     let search = c.search.search in
@@ -25,7 +25,7 @@ take-requires-clause-taken g c =
     let some = c.in-Some.ensures in
     let ahead = g.E.Estimate.least c.args.ahead.now in
     let entry = c.in-Some.entry in
-    let taken : IsTaken c.args.problem.now.all passes hit c.args.problem.now.start ahead known.0 frontier.nodes next.waiting
+    let taken : IsTaken (not (eqb g.row.ALL 0)) passes hit c.args.problem.now.start ahead known.0 frontier.nodes next.waiting
     search.best entry =
     record {
       before = frontier.waiting;
@@ -35,9 +35,30 @@ take-requires-clause-taken g c =
       near =
           some.near;
     } in (
-      known.0,
-      subst (λ (ns : List Node). IsTaken c.args.problem.now.all passes hit c.args.problem.now.start ahead known.0 ns next.waiting
-          search.best entry) (sym step.nodes) taken,
+      omega arith,
+      (
+        c.requires.class,
+        (
+          c.requires.aim,
+          (
+            c.requires.ahead,
+            (
+              c.requires.limit,
+              (
+                c.requires.start,
+                (
+                  (
+                    known.0,
+                    subst (λ (ns : List Node). IsTaken (not (eqb g.row.ALL 0)) passes hit c.args.problem.now.start ahead known.0 ns next.waiting
+                        search.best entry) (sym step.nodes) taken,
+                  ),
+                  c.search.invariant.opened ∙ ap opened_count (sym step.nodes),
+                ),
+              ),
+            ),
+          ),
+        ),
+      ),
     )
 
 pub search-smaller : goal.search-smaller
@@ -62,7 +83,7 @@ search-preserved g c =
     let some = c.in-Some.ensures in
     let ahead = g.E.Estimate.least c.args.ahead.now in
     let entry = c.in-Some.entry in
-    let taken : IsTaken c.args.problem.now.all passes hit c.args.problem.now.start ahead known.0 frontier.nodes next.waiting
+    let taken : IsTaken (not (eqb g.row.ALL 0)) passes hit c.args.problem.now.start ahead known.0 frontier.nodes next.waiting
     search.best entry =
     record {
       before = frontier.waiting;
@@ -72,7 +93,7 @@ search-preserved g c =
       near =
           some.near;
     } in
-    let taken_next = subst (λ (ns : List Node). IsTaken c.args.problem.now.all passes hit c.args.problem.now.start ahead known.0 ns
+    let taken_next = subst (λ (ns : List Node). IsTaken (not (eqb g.row.ALL 0)) passes hit c.args.problem.now.start ahead known.0 ns
     next.waiting search.best entry) (sym step.nodes) taken in
     let went = c.in_ok-take.ensures in
     let before = c.search.invariant.ticks in let ticked = went.ticks in
@@ -90,10 +111,10 @@ returns-in_err-take-clause-halted g c =
     let known = c.search.invariant in
     let ticks : c.take.new.ticks ≡ c.args.ticks.now + opened_count c.search.frontier.nodes =
     c.in_err-take.ensures.none ∙ known.ticks ∙ ap (λ (n : ℕ). c.args.ticks.now + n) known.opened in
-    let is = halted c.args.problem.now.all passes hit c.args.problem.now.start ahead known.underway.0
+    let is = halted (not (eqb g.row.ALL 0)) passes hit c.args.problem.now.start ahead known.underway.0
     c.search.frontier.nodes c.search.frontier.waiting c.search.search.best known.underway.1 in
     let told : (c.take.new.ticks ≡ c.args.ticks.now) ⊎ ((nodes : List Node)
-    × ((floor : ℕ) × (IsHalted c.args.problem.now.all passes hit c.args.problem.now.start ahead floor nodes
+    × ((floor : ℕ) × (IsHalted (not (eqb g.row.ALL 0)) passes hit c.args.problem.now.start ahead floor nodes
     × (c.take.new.ticks ≡ c.args.ticks.now + opened_count nodes)))) =
     inr (c.search.frontier.nodes, (known.underway.0, (is, ticks))) in
     on_err_from c.from_residual-in_err-take.result _ told
@@ -105,7 +126,7 @@ returns-clause-ended g c =
     let ahead = g.E.Estimate.least c.args.ahead.now in
     let search = c.search.search in
     let known = c.search.invariant.underway in
-    let is = ended c.args.problem.now.all passes hit c.args.problem.now.start ahead known.0 c.search.frontier.nodes
+    let is = ended (not (eqb g.row.ALL 0)) passes hit c.args.problem.now.start ahead known.0 c.search.frontier.nodes
     c.search.frontier.waiting search.best known.1 c.in_default.ensures.past in
-    subst (λ (ns : List Node). HasEnded c.args.problem.now.all passes hit c.args.problem.now.start ahead ns search.best)
+    subst (λ (ns : List Node). HasEnded (not (eqb g.row.ALL 0)) passes hit c.args.problem.now.start ahead ns search.best)
     (sym c.next.ensures.nodes) is

@@ -1,4 +1,4 @@
-use Rattle.std.proofs.Common.{sym, ◌∙◌, IsTrue}
+use Rattle.std.proofs.Common.{sym, ◌∙◌, IsTrue, not, eqb}
 use Rattle.std.proofs.lemmas.Bool.{both_ways}
 use Rattle.nav_types.specs.DirSets.{holds}
 use Rattle.jump_search.proofs.Landing.{HasLanded, estimate_landed, follows_noted, follows_none, follows_pruned}
@@ -10,7 +10,7 @@ returns-then-not-has-clause-follows g c =
     let passes = g.R.View.passes c.args.problem.now.runs.now c.args.problem.now.class in
     let hit = g.A.Aim.hit c.args.problem.now.aim.now (g.R.View.extent c.args.problem.now.runs.now) in
     let node = c.args.node.now in
-    follows_pruned c.args.problem.now.all passes hit c.args.problem.now.start (g.E.Estimate.least c.args.ahead.now) node.state node.cost c.args.dir c.args.self.now.nodes
+    follows_pruned (not (eqb g.row.ALL 0)) passes hit c.args.problem.now.start (g.E.Estimate.least c.args.ahead.now) node.state node.cost c.args.dir c.args.self.now.nodes
     c.args.self.now.waiting
     (λ is. both_ways c.has.result c.if-not-has.true (c.has.ensures ∙ c.requires.successors.1 is))
 
@@ -19,7 +19,7 @@ returns-in_default-clause-follows g c =
     let passes = g.R.View.passes c.args.problem.now.runs.now c.args.problem.now.class in
     let hit = g.A.Aim.hit c.args.problem.now.aim.now (g.R.View.extent c.args.problem.now.runs.now) in
     let node = c.args.node.now in
-    follows_none c.args.problem.now.all passes hit c.args.problem.now.start (g.E.Estimate.least c.args.ahead.now) node.state node.cost c.args.dir c.args.self.now.nodes
+    follows_none (not (eqb g.row.ALL 0)) passes hit c.args.problem.now.start (g.E.Estimate.least c.args.ahead.now) node.state node.cost c.args.dir c.args.self.now.nodes
     c.args.self.now.waiting c.in_default.ensures.none
 
 pub landed-next-requires-clause-moves : goal.landed-next-requires-clause-moves
@@ -36,7 +36,7 @@ offer-requires-clause-queued g c =
     let made = c.landed-next.ensures in
     let landed : HasLanded node.state node.cost c.args.dir c.in-Some.stop c.landed-next.result =
     record { cell = made.cell; arrived = made.arrived; costs = made.cost; run = made.run } in (
-      c.args.problem.now.all,
+      (not (eqb g.row.ALL 0)),
       (
         f.floor,
         (
@@ -61,7 +61,7 @@ returns-clause-follows g c =
     (g.met.R.View.within c.args.problem.now.runs.now c.args.problem.now.class) c.requires.cell is in
     let kept : IsTrue (holds c.args.dirs c.args.dir) = sym c.has.ensures ∙ c.if-not-has.false in
     let successor = c.requires.successors.0 kept in
-    follows_noted c.args.problem.now.all passes hit c.args.problem.now.start (g.E.Estimate.least c.args.ahead.now) node.state node.cost c.args.dir c.in-Some.stop
+    follows_noted (not (eqb g.row.ALL 0)) passes hit c.args.problem.now.start (g.E.Estimate.least c.args.ahead.now) node.state node.cost c.args.dir c.in-Some.stop
     c.landed-next.result
     c.args.self.now.nodes c.offer.new.self.nodes c.args.self.now.waiting c.offer.new.self.waiting successor is landed
     most c.requires.followable.consistent c.in_ok-offer.ensures

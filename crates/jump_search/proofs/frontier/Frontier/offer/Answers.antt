@@ -1,4 +1,4 @@
-use Rattle.std.proofs.Common.{◌≤◌, List, length, inl, inr, refl, sym, subst}
+use Rattle.std.proofs.Common.{◌≤◌, List, length, inl, inr, refl, sym, subst, not, eqb}
 use Rattle.std.specs.FinMap as map
 use Rattle.jump_search.specs.declared.nodes.Node.{Node}
 use Rattle.jump_search.specs.inner.Underway.{estimate_of, Relaxes}
@@ -9,7 +9,7 @@ pub returns-in-Dominated : goal.returns-in-Dominated
 returns-in-Dominated g c =
     let node = c.args.node in
     inr (
-      left_below c.args.all c.args.self.now.nodes node.state.cell node.cost c.bound_of.result c.bound_of.ensures.all
+      left_below (not (eqb g.row.ALL 0)) c.args.self.now.nodes node.state.cell node.cost c.bound_of.result c.bound_of.ensures.all
           c.bound_of.ensures.cost c.in-Dominated.ensures,
       (refl, refl),
     )
