@@ -46,7 +46,7 @@ PARTS = {
         ("The precomputed jump flags are right, also after a change", "class_planes plane_sets:updated", "class_planes: StopLineLemmas StopWordLemmas StopChangeLemmas StopBandLemmas"),
     ],
     "Landmarks": [
-        ("No walk costs less than its landmark bound, whatever stands on the map; tables that are added keep that", "landmarks bound_of_walk; landmarks tables:add", "landmarks: Bounds Gentle Marking"),
+        ("No walk costs less than its landmark bound, whatever stands on the map; tables that are made in parts and taken in keep that", "landmarks bound_of_walk; landmarks half_tables:gone_on; landmarks tables:take", "landmarks: Bounds Gentle Marking"),
         ("The bound that a search takes falls along a legal step by at most its cost, and is an estimate by which it may go", "landmarks span_bound_falls; grid_versions versions:landmarks", "landmarks: Spanning\njump_search: PastWalls\nturn_core: Searchable\ngrid_versions: GuidingLemmas"),
     ],
     "Goals, fields and smoothing": [
