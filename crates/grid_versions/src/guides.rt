@@ -34,9 +34,9 @@ const LONG_SIDE: u16 = 1_024;
 /// For how many cells of the map one jump state has to be opened before a table is begun.
 const CELLS_A_STATE: u64 = 8;
 
-/// The work that a turn does at most for tables, in squares of two by two cells that are looked at. Two tables of 512 by 512
-/// cells take about as much.
-const WORK_A_TURN: usize = 5_200_000;
+/// The work that a turn does at most for tables, in squares of two by two cells that are looked at. The eight tables of a map of
+/// 512 by 512 cells take about as much.
+const WORK_A_TURN: usize = 21_200_000;
 
 /// What the searches of a class go by, and what they have cost since that was made. Searches on all versions that share
 /// this are noted here. Contracts see the tables alone.
