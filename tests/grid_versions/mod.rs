@@ -563,12 +563,12 @@ fn tables_know_the_terrain_of_their_class(rt: HostRuntime) {
     assert!(rt; bound <= 4 * 12 * 5_451, "{bound}");
 }
 
-/// How many tables an open map of 1,100 by 1,100 cells has after each of four turns, where searches have earned two before
+/// How many tables an open map of 1,600 by 1,600 cells has after each of four turns, where searches have earned two before
 /// the first.
 fn tables_by_turn(alloc: Global) -> Option<[usize; 4]> {
-    let mut version = version_of(alloc, [1_100, 1_100], (1, "0"), &[])?;
+    let mut version = version_of(alloc, [1_600, 1_600], (1, "0"), &[])?;
     let mut tables = [0; 4];
-    let mut opened = 2 * 151_800;
+    let mut opened = 2 * 320_800;
     for turn in 0..4 {
         version = searched(&version, alloc, (0, opened), "")?;
         tables[turn] = tables_of(&version, 0);
@@ -577,9 +577,9 @@ fn tables_by_turn(alloc: Global) -> Option<[usize; 4]> {
     Some(tables)
 }
 
-/// A table of so many cells is more work than a turn may do for tables: two and a quarter turns of it.
+/// A table of so many cells is more work than a turn may do for tables: one and a fifth of it.
 #[test]
 fn a_large_map_gets_a_table_by_parts(rt: HostRuntime) {
     let tables = tables_by_turn(rt.alloc());
-    assert!(rt; tables == Some([0, 0, 1, 1]), "{tables:?}");
+    assert!(rt; tables == Some([0, 1, 2, 2]), "{tables:?}");
 }
