@@ -18,7 +18,7 @@ mod StopBandLemmas
 mod SpanLemmas
 mod StopChangeLemmas
 mod StepLemmas
-mod StopTableLemmas
+mod SetLemmas
 mod TightLemmas
 mod FreePlaces
 mod BesideLemmas

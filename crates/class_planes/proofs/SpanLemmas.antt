@@ -1,5 +1,5 @@
 -- Bands that no rectangle touches.
-use Rattle.std.proofs.Common.{ℕ, Bool, List, [], ◌≡◌, ◌<◌, ◌≤◌, ◌+◌, ◌*◌, ◌/◌, length, get_or, refl, sym, ap, subst, arith}
+use Rattle.std.proofs.Common.{ℕ, Bool, List, [], ◌≡◌, ◌<◌, ◌≤◌, ◌+◌, ◌*◌, ◌/◌, get_or, arith}
 use Rattle.std.specs.Prelude.{⊤, All}
 use Rattle.nav_types.specs.declared.cells.Rect.{Rect}
 use Rattle.nav_types.specs.declared.straights.Axis.{Axis}
@@ -7,9 +7,9 @@ use Rattle.nav_types.specs.declared.straights.Axis.TheVariants.{Row, Column}
 use Rattle.nav_types.specs.declared.straights.Way.{Way}
 use Rattle.nav_types.specs.Cells.{cell_at}
 use Rattle.class_planes.specs.Planes.{IsOutside}
-use Rattle.class_planes.specs.inner.Lines.{LineTable, RowTable, AreColumnsBefore, AreLines, AreLinesBefore, IsBand, free_cell}
+use Rattle.class_planes.specs.inner.Lines.{LineTable, RowTable, AreColumnsBefore, AreLinesBefore, IsBand, free_cell}
 use Rattle.class_planes.specs.inner.Spans.{IsLineAbout}
-use Rattle.class_planes.specs.inner.StopLines.{AreBandStops, AreStopsBefore, AreStopsWhere, no_bands}
+use Rattle.class_planes.specs.inner.StopLines.{AreBandStops, AreStopsBefore}
 use Rattle.class_planes.proofs.StopBandLemmas.{band_far}
 use Rattle.class_planes.proofs.TurnLemmas.{band_same}
 use Rattle.class_planes.proofs.UpdateLemmas.{band_stays}
@@ -25,24 +25,6 @@ about_band : (axis : Axis) (rects : List Rect) (count from to b n : ℕ) → Are
 about_band axis rects count from to b n about below out low high =
     let same : n / 32 ≡ b = omega (arith, low, high) in
     about n (omega (arith, same, below)) (λ least most. out (omega (arith, least, same)) (omega (arith, most, same)))
-
--- no line yet
-pub no_lines : (free : ℕ → ℕ → Bool) (words : ℕ) (lines : LineTable) → lines.words ≡ words → lines.bands ≡ []
-    → AreLines free 0 words lines
-no_lines free words lines wide none = record {
-  wide = wide;
-  many = ap length none;
-  each = λ b below. absurd (omega (arith, below));
-}
-
-pub no_stops : (way : Way) (lines stops : LineTable) (count words : ℕ) → stops ≡ no_bands words → words ≡ lines.words
-    → AreStopsWhere (λ n i. ⊤) way lines count 0 stops
-no_stops way lines stops count words none wide =
-    subst (AreStopsWhere (λ n i. ⊤) way lines count 0) (sym none) (record {
-      wide = wide;
-      many = refl;
-      each = λ b below. absurd (omega (arith, below));
-    })
 
 -- the rows of a band that no rectangle touches
 pub rows_same : (free : ℕ → ℕ → Bool) (rects : List Rect) (count words from to : ℕ) (table : LineTable)

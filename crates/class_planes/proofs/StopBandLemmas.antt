@@ -1,5 +1,5 @@
 -- Bands of stops, and their lines.
-use Rattle.std.proofs.Common.{◌≡◌, ◌≢◌, ℕ, zero, suc, ◌+◌, ◌-◌, ◌*◌, ◌/◌, ◌%◌, ◌<◌, ◌≤◌, max, Bool, List, [], ◌∷◌, take, drop, length, get_or, length-append, inl, inr, sym, ap, ap₂, ◌∙◌, subst, ⊎_elim, arith}
+use Rattle.std.proofs.Common.{◌≡◌, ◌≢◌, ℕ, zero, suc, ◌+◌, ◌-◌, ◌*◌, ◌/◌, ◌%◌, ◌<◌, ◌≤◌, max, Bool, List, [], ◌∷◌, drop, length, get_or, inl, inr, sym, ap, ap₂, ◌∙◌, subst, ⊎_elim, arith}
 use Rattle.std.specs.Int.{bit_at}
 use Rattle.std.specs.Prelude.{All, ⊤}
 use Rattle.std.proofs.lemmas.Bool.{cases_lt, cases_eq}
@@ -10,9 +10,7 @@ use Rattle.nav_types.specs.declared.cells.Rect.{Rect}
 use Rattle.nav_types.specs.declared.straights.Way.{Way}
 use Rattle.class_planes.specs.inner.Lines.{LineTable, AreLines, line_at, line_in, patched}
 use Rattle.class_planes.specs.inner.Runs.{bit_in, LaneWords}
-use Rattle.class_planes.specs.inner.StopLines.{AreMapLines, AreBandStops, AreStops, AreStopsBefore, AreStopsWhere, IsBandStop, IsFarFrom, IsInTouchedWord, line_before, with_band, with_bands}
-use Rattle.class_planes.proofs.LineLemmas.{each_in_range, range_long}
-use Rattle.class_planes.proofs.PlaneLemmas.{each_more}
+use Rattle.class_planes.specs.inner.StopLines.{AreMapLines, AreBandStops, AreStops, AreStopsBefore, IsBandStop, IsFarFrom, IsInTouchedWord, line_before}
 use Rattle.class_planes.proofs.ReadLemmas.{line_word, row_long}
 use Rattle.class_planes.proofs.TurnLemmas.{patched_here, patched_elsewhere}
 use Rattle.class_planes.proofs.WordLemmas.{past_line}
@@ -181,33 +179,6 @@ stops_but_more way lines count first rects from rect old new is near kept so_far
 
 -- ---- bands
 
--- one band more
-pub stops_more : (way : Way) (lines : LineTable) (count bands : ℕ) (old now : LineTable) (band : List ℕ)
-    → AreStopsWhere (λ n i. ⊤) way lines count bands old → now ≡ with_band old band
-    → AreBandStops (λ n i. ⊤) way lines count (32 * bands) band
-    → AreStopsWhere (λ n i. ⊤) way lines count (bands + 1) now
-stops_more way lines count bands old now band are more is =
-    subst (AreStopsWhere (λ n i. ⊤) way lines count (bands + 1)) (sym more) (record {
-      wide = are.wide;
-      many = length-append old.bands (band ∷ []) ∙ omega (arith, are.many);
-      each = each_more (λ (k : ℕ) (one : List ℕ). AreBandStops (λ n i. ⊤) way lines count (32 * k) one) old.bands band []
-          bands are.many are.each is;
-    })
-
--- some bands of another table more
-pub stops_shared : (way : Way) (lines : LineTable) (count start end : ℕ) (old now from : LineTable) → start ≤ end
-    → end ≤ length from.bands → AreStopsWhere (λ n i. ⊤) way lines count start old
-    → now ≡ with_bands old (take (end - start) (drop start from.bands))
-    → ((b : ℕ) → start ≤ b → b < end → AreBandStops (λ n i. ⊤) way lines count (32 * b) (get_or from.bands b []))
-    → AreStopsWhere (λ n i. ⊤) way lines count end now
-stops_shared way lines count start end old now from order within are more each =
-    subst (AreStopsWhere (λ n i. ⊤) way lines count end) (sym more) (record {
-      wide = are.wide;
-      many = range_long old.bands from.bands start end are.many order within;
-      each = each_in_range (λ (k : ℕ) (one : List ℕ). AreBandStops (λ n i. ⊤) way lines count (32 * k) one) old.bands
-          from.bands start end are.many are.each each;
-    })
-
 -- a band that no rectangle comes near
 pub band_far : (way : Way) (lines : LineTable) (count first : ℕ) (rects : List Rect) (band : List ℕ)
     → ((n i : ℕ) → first ≤ n → n < first + 32 → IsFarFrom rects n i)
@@ -216,6 +187,39 @@ band_far way lines count first rects band far is = record {
   long = is.long;
   each = λ m i small line within sure.
       is.each m i small line within (far (first + m) i (omega arith) (omega (arith, small)));
+}
+
+-- the bands before the next one are right, and all where no rectangle is near
+pub record AreRenewed (way : Way) (lines : LineTable) (count : ℕ) (rects : List Rect) (next : ℕ)
+    (stops : LineTable) : Type 0 where
+  pub before : AreStopsBefore way rects count lines stops
+  pub done : (b : ℕ) → b < count / 32 + 1 → b < next → AreBandStops (λ n i. ⊤) way lines count (32 * b) (get_or stops.bands b [])
+
+-- one band more
+pub renewed_more : (way : Way) (lines old new : LineTable) (count : ℕ) (rects : List Rect) (next : ℕ)
+    → AreRenewed way lines count rects next old → new.words ≡ old.words → length new.bands ≡ length old.bands
+    → AreBandStops (λ n i. ⊤) way lines count (32 * next) (get_or new.bands next [])
+    → ((b : ℕ) → b ≢ next → get_or new.bands b [] ≡ get_or old.bands b [])
+    → AreRenewed way lines count rects (next + 1) new
+renewed_more way lines old new count rects next are same many here others = record {
+  before = record {
+    wide = same ∙ are.before.wide;
+    many = many ∙ are.before.many;
+    each = λ b below. ⊎_elim
+        (λ (at : b ≡ next).
+        subst (λ (n : ℕ). AreBandStops (IsFarFrom rects) way lines count (32 * n) (get_or new.bands n [])) (sym at)
+        (record { long = here.long; each = λ m i small line within far. here.each m i small line within tt }))
+        (λ (other : b ≢ next).
+        subst (AreBandStops (IsFarFrom rects) way lines count (32 * b)) (sym (others b other)) (are.before.each b below))
+        (cases_eq b next);
+  };
+  done = λ b below low. ⊎_elim
+      (λ (at : b ≡ next).
+      subst (λ (n : ℕ). AreBandStops (λ m i. ⊤) way lines count (32 * n) (get_or new.bands n [])) (sym at) here)
+      (λ (other : b ≢ next).
+      subst (AreBandStops (λ m i. ⊤) way lines count (32 * b)) (sym (others b other))
+      (are.done b below (omega (arith, low, other))))
+      (cases_eq b next);
 }
 
 pub one_rect : (P : Rect → Type 0) (rect : Rect) → P rect → All P (rect ∷ [])

@@ -12,10 +12,9 @@ use Rattle.nav_types.specs.Cells.{IsInside, cell_at}
 use Rattle.nav_types.specs.Lines.{cell_on, line_on, place_on, side_along}
 use Rattle.lane_rows.specs.Rows.{one_if}
 use Rattle.class_planes.specs.Planes.{PlaneCells, is_passable}
-use Rattle.class_planes.specs.declared.line_sets.LineSet.{LineSet}
 use Rattle.class_planes.specs.inner.Lines.{LineTable, RowTable, AreLines, free_at, free_cell, line_at, line_in, plane_of}
 use Rattle.class_planes.specs.inner.Runs.{AreLanesOf, Far, GoesFar, LaneWords, TellsStop, bit_in, bits_along, is_before, opening, opens_after}
-use Rattle.class_planes.specs.inner.StopLines.{AreMapLines, AreStops, IsStopBit, lanes_of, line_before, stop_bit, stops_along}
+use Rattle.class_planes.specs.inner.StopLines.{AreMapLines, AreStops, IsStopBit, lanes_of, line_before, map_lines, stop_bit, stops_along}
 use Rattle.class_planes.specs.inner.Tracks.{IsTrackAlong, IsTrackOf, line_count}
 use Rattle.class_planes.proofs.FarLemmas.{bit_small, down_at, down_past, down_small}
 use Rattle.class_planes.proofs.PlaneLemmas.{line_free, only_inside, passable_is, told}
@@ -296,7 +295,7 @@ same_cell_on Row plane cell = refl
 same_cell_on Column plane cell = refl
 
 -- the free cells of the rows of a plane are its passable ones
-pub axis_track : (axis : Axis) (table : RowTable) (plane : PlaneCells) (line_set : LineSet) → plane_of table ≡ plane
+pub axis_track : (axis : Axis) (table : RowTable) (plane : PlaneCells) (line_set : LineTable) → plane_of table ≡ plane
     → IsTrackAlong axis table line_set
     → IsTrackOf (λ n k. is_passable plane (cell_on axis n k)) (line_count axis plane.size) (side_along axis plane.size) line_set
 axis_track axis table plane line_set same is =
@@ -306,43 +305,43 @@ axis_track axis table plane line_set same is =
     (side_along axis table.size) line_set) (λ p cell. sym (passable_is table cell) p) is)
 
 -- a line set of these lines
-pub track_along : (axis : Axis) (size : Size) (rows lines : LineTable) (row_track line_set : LineSet) → row_track.lines ≡ rows
-    → line_set.lines ≡ lines
+pub track_along : (axis : Axis) (size : Size) (rows lines : LineTable) (row_track line_set : LineTable) → map_lines row_track ≡ rows
+    → map_lines line_set ≡ lines
     → AreLines (λ n k. free_cell (record { size = size; rows = rows }) (cell_on axis n k)) (line_count axis size / 32 + 1)
     (side_along axis size / 64 + 1) lines
-    → ((way : Way) → AreStops way (line_count axis size) lines (stops_along way line_set.stops))
-    → IsTrackAlong axis (record { size = size; rows = row_track.lines }) line_set
+    → ((way : Way) → AreStops way (line_count axis size) lines (stops_along way line_set))
+    → IsTrackAlong axis (record { size = size; rows = map_lines row_track }) line_set
 track_along axis size rows lines row_track line_set kept same are stops =
     subst (λ (r : LineTable). IsTrackAlong axis (record { size = size; rows = r }) line_set) (sym kept) (record {
       lines = subst (AreLines (λ n k. free_cell (record { size = size; rows = rows }) (cell_on axis n k))
           (line_count axis size / 32 + 1) (side_along axis size / 64 + 1)) (sym same) are;
-      stops = λ way. subst (λ (l : LineTable). AreStops way (line_count axis size) l (stops_along way line_set.stops)) (sym same)
+      stops = λ way. subst (λ (l : LineTable). AreStops way (line_count axis size) l (stops_along way line_set)) (sym same)
           (stops way);
     })
 
 -- a line of a plane, with the lines beside it
-pub axis_lanes : (axis : Axis) (plane : PlaneCells) (line_set : LineSet) (n : ℕ)
+pub axis_lanes : (axis : Axis) (plane : PlaneCells) (line_set : LineTable) (n : ℕ)
     → IsTrackOf (λ n k. is_passable plane (cell_on axis n k)) (line_count axis plane.size) (side_along axis plane.size) line_set
     → n < line_count axis plane.size
-    → AreLanesOf (λ n k. is_passable plane (cell_on axis n k)) n (lanes_of line_set.lines (line_count axis plane.size) n)
+    → AreLanesOf (λ n k. is_passable plane (cell_on axis n k)) n (lanes_of (map_lines line_set) (line_count axis plane.size) n)
 axis_lanes axis plane line_set n is line =
     let free : ℕ → ℕ → Bool = λ n k. is_passable plane (cell_on axis n k) in
-    lanes_are free free (line_count axis plane.size) (side_along axis plane.size / 64 + 1) n line_set.lines is.lines
+    lanes_are free free (line_count axis plane.size) (side_along axis plane.size / 64 + 1) n (map_lines line_set) is.lines
     (λ m i. refl) line (λ k. past_lines axis plane k)
 
 -- the stops of a plane tell of the straight runs over it
-pub stop_known : (plane : PlaneCells) (straight : Straight) (cell : Cell) (line_set : LineSet)
+pub stop_known : (plane : PlaneCells) (straight : Straight) (cell : Cell) (line_set : LineTable)
     → IsTrackOf (λ n k. is_passable plane (cell_on straight.axis n k)) (line_count straight.axis plane.size)
     (side_along straight.axis plane.size) line_set → IsTrue (is_passable plane cell)
     → TellsStop (is_passable plane) straight cell
-    (free_at (stops_along straight.way line_set.stops) (line_on straight.axis cell) (place_on straight.axis cell))
+    (free_at (stops_along straight.way line_set) (line_on straight.axis cell) (place_on straight.axis cell))
 stop_known plane straight cell line_set is passing =
     let axis = straight.axis in
     let free : ℕ → ℕ → Bool = λ n k. is_passable plane (cell_on axis n k) in
     let at = on_line axis plane.size cell (only_inside plane cell passing) in
     let place : place_on axis cell < side_along axis plane.size = at.1 in
     let told = told_at straight.way free free (line_count axis plane.size) (side_along axis plane.size / 64 + 1)
-    (line_on axis cell) (place_on axis cell) line_set.lines (stops_along straight.way line_set.stops) is.lines (λ m i. refl)
+    (line_on axis cell) (place_on axis cell) (map_lines line_set) (stops_along straight.way line_set) is.lines (λ m i. refl)
     (λ k. past_lines axis plane k) (is.stops straight.way) at.0 (omega (arith, place))
     (same_cell_on axis plane cell ∙ passing) in (
       told.far,
@@ -350,14 +349,14 @@ stop_known plane straight cell line_set is passing =
     )
 
 -- a place of the stops
-pub stop_place : (axis : Axis) (way : Way) (plane : PlaneCells) (cell : Cell) (line_set : LineSet)
+pub stop_place : (axis : Axis) (way : Way) (plane : PlaneCells) (cell : Cell) (line_set : LineTable)
     → IsTrackOf (λ n k. is_passable plane (cell_on axis n k)) (line_count axis plane.size)
     (side_along axis plane.size) line_set → IsTrue (is_passable plane cell)
-    → HasPlace (stops_along way line_set.stops) (line_on axis cell) (place_on axis cell)
+    → HasPlace (stops_along way line_set) (line_on axis cell) (place_on axis cell)
 stop_place axis way plane cell line_set is passing =
     let at = on_line axis plane.size cell (only_inside plane cell passing) in
     has_place way (line_count axis plane.size) (side_along axis plane.size) (line_on axis cell) (place_on axis cell)
-    line_set.lines (stops_along way line_set.stops) (is.stops way) is.lines.wide at.0 at.1
+    (map_lines line_set) (stops_along way line_set) (is.stops way) is.lines.wide at.0 at.1
 
 side_few : (axis : Axis) (size : Size) → (0 < line_count axis size) × ((line_count axis size ≤ 2048) × (side_along axis size ≤ 2048))
 side_few Row size = (omega (arith, size.high), (omega (arith, size.high), omega (arith, size.wide)))

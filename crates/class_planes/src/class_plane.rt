@@ -10,11 +10,11 @@ ghost use Rattle.class_planes.specs.inner.Runs.{AreLanesOf, TellsStop};
 ghost use Rattle.class_planes.specs.inner.Tracks.{IsTrackOf, line_count};
 
 use crate::free_places::{first_blocked, first_free};
-use crate::line_sets::LineSet;
+use crate::line_sets::{LineSet, unstopped};
 use crate::lines::Lines;
 use crate::read_cells::ReadRect;
 use crate::rows::lines_of;
-use crate::stops::transposed;
+use crate::stops::{stopped, transposed, updated_stops};
 use crate::transposed::{columns_of, updated_columns};
 use crate::updates::updated_lines;
 use crate::word_scans::Lanes;
@@ -39,15 +39,16 @@ impl Model for ClassPlane {
     ghost use Rattle.nav_types.specs.declared.straights.Axis.TheVariants.{Row, Column};
     ghost use Rattle.class_planes.specs.Planes.{PlaneCells};
     ghost use Rattle.class_planes.specs.inner.Lines.{plane_of};
+    ghost use Rattle.class_planes.specs.inner.StopLines.{map_lines};
     ghost use Rattle.class_planes.specs.inner.Tracks.{IsTrackAlong};
 
     ghost Value = { PlaneCells };
 
-    ghost view = { λ p. plane_of (record { size = p.size; rows = p.rows.lines }) };
+    ghost view = { λ p. plane_of (record { size = p.size; rows = map_lines p.rows }) };
 
     ghost invariant = { λ p. record {
-      row_track : IsTrackAlong Row (record { size = p.size; rows = p.rows.lines }) p.rows;
-      column_track : IsTrackAlong Column (record { size = p.size; rows = p.rows.lines }) p.columns;
+      row_track : IsTrackAlong Row (record { size = p.size; rows = map_lines p.rows }) p.rows;
+      column_track : IsTrackAlong Column (record { size = p.size; rows = map_lines p.rows }) p.columns;
     } };
 }
 
@@ -69,9 +70,10 @@ impl ClassPlane {
         requires { AreRows (record { size = size; rows = rows }) }
         ensures { IfOk result (λ plane. plane ≡ plane_of (record { size = size; rows = rows })) }
     {
-        let columns = columns_of(alloc, &rows, size)?;
-        let row_track = LineSet::build(alloc, rows, size.h)?;
-        let column_track = LineSet::build(alloc, columns, size.w)?;
+        let lines = unstopped(alloc, &rows)?;
+        let columns = columns_of(alloc, &lines, size)?;
+        let row_track = stopped(alloc, lines, size.h)?;
+        let column_track = stopped(alloc, columns, size.w)?;
         Ok(ClassPlane {
             rows: row_track,
             columns: column_track,
@@ -101,11 +103,11 @@ impl ClassPlane {
         ensures passes { IfOk result (λ plane. is_passable plane ≡ V.passes view.now class) }
     {
         let size = self.size;
-        let rows = updated_lines(alloc, view, class, &self.rows.lines, reads, rects)?;
-        let columns = updated_columns(alloc, &rows, size, &self.columns.lines, rects)?;
-        let row_track = self.rows.renewed(alloc, rows, size.h, rects)?;
+        let rows = updated_lines(alloc, view, class, &self.rows, reads, rects)?;
+        let columns = updated_columns(alloc, &rows, size, &self.columns, rects)?;
+        let row_track = updated_stops(alloc, &self.rows, rows, size.h, rects)?;
         let across = transposed(alloc, rects)?;
-        let column_track = self.columns.renewed(alloc, columns, size.w, &across)?;
+        let column_track = updated_stops(alloc, &self.columns, columns, size.w, &across)?;
         Ok(ClassPlane {
             rows: row_track,
             columns: column_track,
@@ -127,7 +129,7 @@ impl ClassPlane {
         ensures words { length result.now ≡ self.now.size.w / 64 + 1 }
         ensures bits { AreFreeBits (λ i. is_passable self.now (cell_at i j)) result.now }
     {
-        self.rows.lines.line(j)
+        self.rows.line(j)
     }
 
     /// The passable cells of column `i`: bit `j % 64` of word `j / 64` is set exactly where the cell (i, j) is passable
@@ -137,7 +139,7 @@ impl ClassPlane {
         ensures words { length result.now ≡ self.now.size.h / 64 + 1 }
         ensures bits { AreFreeBits (λ j. is_passable self.now (cell_at i j)) result.now }
     {
-        self.columns.lines.line(i)
+        self.columns.line(i)
     }
 
     /// The first place of the line from the cell's own up whose cell is passable; the length of the line where there is
@@ -205,7 +207,7 @@ impl ClassPlane {
         requires { IsInside self.now.size cell }
         ensures { result ≡ is_passable self.now cell }
     {
-        self.rows.lines.is_free(cell.j, cell.i)
+        self.rows.is_free(cell.j, cell.i)
     }
 
     /// Whether the straight run from the cell has a stop for a side that opens.

@@ -11,7 +11,7 @@
 //!
 //! ```text
 //!    planes                 class_plane, plane_sets, lines, line_sets, rows, transposed
-//!    jump flags             jump_flags, stops, flag_words, fills, forced_places
+//!    jump flags             stops, flag_words, fills, forced_places
 //!    runs                   plane_runs, plane_scans, word_scans, beside_cells, free_places
 //!    what an edit changes   changed_parts, read_cells, updates, band_spans, joined_rects, tight_rects
 //! ```
@@ -26,7 +26,6 @@ mod flag_words;
 mod forced_places;
 mod free_places;
 mod joined_rects;
-mod jump_flags;
 mod line_sets;
 mod lines;
 mod plane_runs;

@@ -1,126 +1,178 @@
 //! Where the straight runs along the lines of a map have a stop for a side that opens, known beforehand.
-ghost use Rattle.std.specs.Prelude.{ℕ, ⊤, ◌≡◌, ◌<◌, ◌≤◌, ◌+◌, ◌*◌, ◌/◌, All, length, map, IsFalse, IfOk, OnOk};
+ghost use Rattle.std.specs.Prelude.{ℕ, ⊤, false, ◌≡◌, ◌≢◌, ◌<◌, ◌≤◌, ◌+◌, ◌*◌, ◌/◌, [], All, length, map, slice_index_or, IsFalse, IfOk, OnOk};
 ghost use Rattle.nav_types.specs.declared.straights.Way.TheVariants as Way;
-ghost use Rattle.class_planes.specs.inner.StopLines.{IsBandStop, IsStopBit, AreAlike, AreMapLines, AreSameOutside, AreBandStops, AreStopsWhere, AreStops, AreStopsBefore, IsFarFrom, IsInTouchedWord, IsRectOf, lanes_of, line_before, turned_rect};
+ghost use Rattle.nav_types.specs.declared.straights.Way.{Way};
+ghost use Rattle.class_planes.specs.inner.Lines.{AreLines, line_at};
+ghost use Rattle.class_planes.specs.inner.StopLines.{IsBandStop, IsStopBit, AreAlike, AreMapLines, AreSameOutside, AreBandStops, AreStops, AreStopsBefore, IsFarFrom, IsInTouchedWord, IsRectOf, band_put, lanes_of, map_lines, part_along, part_in, stops_along, turned_rect};
 
 use crate::band_spans::bands_about;
 use crate::flag_words::{renew_down, renew_up};
 use crate::joined_rects::joined;
-use crate::jump_flags::{JumpFlags, blank_stops, share_stops};
-use crate::lines::{BAND, Lines, copied, is_inner};
+use crate::line_sets::{LineSet, line_before};
+use crate::lines::{BAND, lanes_in, line_in};
 use crate::tight_rects::tight_rects;
 use crate::word_scans::Lanes;
 use nav_types::{Axis, NoMemory, Rect, Way};
 use std::alloc::Global;
+use std::marker::Model;
 
-/// The first `count` of the lines: those of a map.
+/// The first `count` of the lines, those of a map, where the 32 from `first` on are taken out of the set. Contracts see
+/// all of them in one table.
 #[derive(Drop)]
 struct MapLines<'a> {
-    lines: &'a Lines,
+    others: &'a LineSet,
+    bits: &'a [u64],
+    first: u16,
     count: u16,
 }
 
-/// The stops of the runs along the first `count` lines.
-pub fn stops_of(alloc: Global, lines: &Lines, count: u16) -> Result<JumpFlags, NoMemory>
-    requires { AreMapLines count lines.now }
-    ensures up { IfOk result (λ stops. AreStops Way.Up count lines.now stops.up) }
-    ensures down { IfOk result (λ stops. AreStops Way.Down count lines.now stops.down) }
+impl<'a> Model for MapLines<'a> {
+    ghost use Rattle.std.specs.Prelude.{◌≡◌, ◌*◌, ◌/◌, slice_set};
+    ghost use Rattle.class_planes.specs.inner.StopLines.{MapTable, map_lines};
+
+    ghost Value = { MapTable };
+
+    ghost view = { λ m. record {
+      count = m.count;
+      lines = record {
+        words = m.others.now.words;
+        bands = slice_set (map_lines m.others.now).bands (m.first / 32) m.bits.now;
+      };
+    } };
+
+    ghost invariant = { λ m. 32 * (m.first / 32) ≡ m.first };
+}
+
+impl MapLines<'_> {
+    /// How many lines the map has.
+    fn count(&self) -> u16
+        ensures { result ≡ self.now.count }
+    {
+        self.count
+    }
+
+    /// How many words a line has.
+    fn words(&self) -> usize
+        ensures { result ≡ self.now.lines.words }
+    {
+        self.others.words()
+    }
+
+    /// The words of line `n`.
+    fn line(&self, n: u16) -> &[u64]
+        requires lines { AreMapLines self.now.count self.now.lines }
+        requires line { n ≤ self.now.count }
+        ensures { result.now ≡ line_at self.now.lines n }
+    {
+        if n / BAND == self.first / BAND {
+            line_in(self.bits, self.others.words(), n % BAND)
+        } else {
+            self.others.line(n)
+        }
+    }
+
+    /// Line `n` with the lines beside it.
+    fn lanes_at(&self, n: u16) -> Lanes<'_>
+        requires lines { AreMapLines self.now.count self.now.lines }
+        requires line { n < self.now.count }
+        ensures { result ≡ lanes_of self.now.lines self.now.count n }
+    {
+        if self.first < n && n < self.first + (BAND - 1) {
+            return lanes_in(self.bits, self.others.words(), usize::from(n - self.first));
+        }
+        let mid = self.line(n);
+        let left = self.line(n + 1);
+        let right = self.line(line_before(self.count, n));
+        Lanes { mid, left, right }
+    }
+}
+
+/// The same lines with the stops of the runs along the first `count` of them, where there was none.
+pub fn stopped(alloc: Global, lines: LineSet, count: u16) -> Result<LineSet, NoMemory>
+    requires lines { AreMapLines count (map_lines lines) }
+    requires blank { (way : Way) → AreLines (λ n i. false) (count / 32 + 1) lines.words (stops_along way lines) }
+    ensures lines { IfOk result (λ set. map_lines set ≡ map_lines lines) }
+    ensures stops { IfOk result (λ set. (way : Way) → AreStops way count (map_lines lines) (stops_along way set)) }
 {
-    let words = lines.words();
-    let blank = blank_stops(alloc, count / BAND + 1, words)?;
     let whole = Rect {
         i0: 0,
         j0: 0,
-        i1: 64 * words as u16 - 2,
+        i1: 64 * lines.words() as u16 - 2,
         j1: count - 1,
     };
-    renewed_stops(alloc, &MapLines { lines, count }, &blank, &[whole])
+    let mut set = lines;
+    renew_stops(alloc, &mut set, count, &[whole])?;
+    Ok(set)
 }
 
-/// The stops of the runs along the first `count` lines, where `old` are those of `before`, which are the same outside of
-/// the rectangles. Bands near which nothing has changed are shared, and elsewhere the words near the changed lines are
-/// made anew, and those on against the run as far as they change.
+/// The same lines with the stops of the runs along the first `count` of them, where they have those of `before`, whose
+/// lines are the same outside of the rectangles. Words near the changed lines are made anew, and those on against the run
+/// as far as they change.
 pub fn updated_stops(
     alloc: Global,
-    before: &Lines,
-    lines: &Lines,
+    before: &LineSet,
+    lines: LineSet,
     count: u16,
-    old: &JumpFlags,
     rects: &[Rect],
-) -> Result<JumpFlags, NoMemory>
-    requires alike { AreAlike count before.now lines.now }
-    requires inside { All (IsRectOf count lines.now.words) rects.now }
-    requires same { AreSameOutside count before.now lines.now rects.now }
-    requires up { AreStops Way.Up count before.now old.now.up }
-    requires down { AreStops Way.Down count before.now old.now.down }
-    ensures up { IfOk result (λ stops. AreStops Way.Up count lines.now stops.up) }
-    ensures down { IfOk result (λ stops. AreStops Way.Down count lines.now stops.down) }
+) -> Result<LineSet, NoMemory>
+    requires alike { AreAlike count (map_lines before.now) (map_lines lines) }
+    requires inside { All (IsRectOf count lines.words) rects.now }
+    requires same { AreSameOutside count (map_lines before.now) (map_lines lines) rects.now }
+    requires stops { (way : Way) → AreStops way count (map_lines before.now) (stops_along way lines) }
+    ensures lines { IfOk result (λ set. map_lines set ≡ map_lines lines) }
+    ensures stops { IfOk result (λ set. (way : Way) → AreStops way count (map_lines lines) (stops_along way set)) }
 {
-    let tight = tight_rects(alloc, before, lines, count, rects)?;
+    let tight = tight_rects(alloc, before, &lines, count, rects)?;
     let rows = joined(alloc, tight)?;
     let near = joined(alloc, rows)?;
-    renewed_stops(alloc, &MapLines { lines, count }, old, &near)
+    let mut set = lines;
+    renew_stops(alloc, &mut set, count, &near)?;
+    Ok(set)
 }
 
-/// The stops of the runs along the lines of a map, where those of before are right far from the rectangles.
-fn renewed_stops(
-    alloc: Global,
-    map: &MapLines<'_>,
-    before: &JumpFlags,
-    rects: &[Rect],
-) -> Result<JumpFlags, NoMemory>
-    requires lines { AreMapLines map.now.count map.now.lines.now }
-    requires inside { All (IsRectOf map.now.count map.now.lines.now.words) rects.now }
-    requires up { AreStopsBefore Way.Up rects.now map.now.count map.now.lines.now before.now.up }
-    requires down { AreStopsBefore Way.Down rects.now map.now.count map.now.lines.now before.now.down }
-    ensures up { IfOk result (λ stops. AreStops Way.Up map.now.count map.now.lines.now stops.up) }
-    ensures down { IfOk result (λ stops. AreStops Way.Down map.now.count map.now.lines.now stops.down) }
+/// Makes the stops of the runs along the lines of a map right, where they are so far from the rectangles.
+fn renew_stops(alloc: Global, set: &mut LineSet, count: u16, rects: &[Rect]) -> Result<(), NoMemory>
+    requires lines { AreMapLines count (map_lines set.old) }
+    requires inside { All (IsRectOf count set.old.words) rects.now }
+    requires before { (way : Way) → AreStopsBefore way rects.now count (map_lines set.old) (stops_along way set.old) }
+    ensures lines { OnOk result (map_lines set.new ≡ map_lines set.old) }
+    ensures stops { OnOk result ((way : Way) → AreStops way count (map_lines set.old) (stops_along way set.new)) }
 {
-    let bands = map.count / BAND + 1;
-    let near = bands_about(rects, Axis::Row, bands);
-    let mut stops = JumpFlags::with_capacity(alloc, usize::from(bands), map.lines.words())?;
-    share_stops(before, 0, near.from, &mut stops)?;
+    let near = bands_about(rects, Axis::Row, count / BAND + 1);
     for band in near.from..near.to {
-        push_band(alloc, map, before, rects, band, &mut stops)?;
+        renew_band(alloc, set, count, rects, band)?;
     }
-    share_stops(before, near.to, bands, &mut stops)?;
-    Ok(stops)
+    Ok(())
 }
 
-/// Appends a band to those before it. It is that of `before`, where no rectangle comes near it.
-fn push_band(
+/// Makes the stops along the 32 lines of a band right, where they are so far from the rectangles. A band that others hold
+/// too is copied, where a rectangle comes near it.
+fn renew_band(
     alloc: Global,
-    map: &MapLines<'_>,
-    before: &JumpFlags,
+    set: &mut LineSet,
+    count: u16,
     rects: &[Rect],
     band: u16,
-    stops: &mut JumpFlags,
 ) -> Result<(), NoMemory>
-    requires lines { AreMapLines map.now.count map.now.lines.now }
-    requires inside { All (IsRectOf map.now.count map.now.lines.now.words) rects.now }
-    requires up_before { AreStopsBefore Way.Up rects.now map.now.count map.now.lines.now before.now.up }
-    requires down_before { AreStopsBefore Way.Down rects.now map.now.count map.now.lines.now before.now.down }
-    requires band { band < map.now.count / 32 + 1 }
-    requires up { AreStopsWhere (λ n i. ⊤) Way.Up map.now.lines.now map.now.count band stops.old.up }
-    requires down { AreStopsWhere (λ n i. ⊤) Way.Down map.now.lines.now map.now.count band stops.old.down }
-    ensures up { OnOk result (AreStopsWhere (λ n i. ⊤) Way.Up map.now.lines.now map.now.count
-        (band + 1) stops.new.up) }
-    ensures down { OnOk result (AreStopsWhere (λ n i. ⊤) Way.Down map.now.lines.now map.now.count
-        (band + 1) stops.new.down) }
+    requires lines { AreMapLines count (map_lines set.old) }
+    requires inside { All (IsRectOf count set.old.words) rects.now }
+    requires band { band < count / 32 + 1 }
+    requires before { (way : Way) → AreBandStops (IsFarFrom rects.now) way (map_lines set.old) count (32 * band)
+        (slice_index_or (stops_along way set.old).bands band []) }
+    ensures lines { OnOk result (map_lines set.new ≡ map_lines set.old) }
+    ensures stops { OnOk result ((way : Way) → AreBandStops (λ n i. ⊤) way (map_lines set.old) count (32 * band)
+        (slice_index_or (stops_along way set.new).bands band [])) }
+    ensures others { OnOk result ((way : Way) (b : ℕ) → b ≢ band
+        → slice_index_or (stops_along way set.new).bands b [] ≡ slice_index_or (stops_along way set.old).bands b []) }
 {
     if !is_near(rects, BAND * band) {
-        return stops.share(before, band);
+        return Ok(());
     }
-    let up = updated_band(alloc, map, Way::Up, before.band(Way::Up, band), rects, band)?;
-    let down = updated_band(
-        alloc,
-        map,
-        Way::Down,
-        before.band(Way::Down, band),
-        rects,
-        band,
-    )?;
-    stops.push(alloc, up, down)
+    let long = usize::from(BAND) * set.words();
+    let mut words = set.take(alloc, band)?;
+    let (bits, stops) = words.split_at_mut(long);
+    write_stops(set, bits, count, rects, band, stops);
+    set.put(alloc, band, words)
 }
 
 /// Whether a rectangle may meet one of the 32 lines from `first` on, or a line beside them.
@@ -133,35 +185,50 @@ fn is_near(rects: &[Rect], first: u16) -> bool
     rects.iter().any(|rect| rect.j0 <= high && low <= rect.j1)
 }
 
-/// The stops along the 32 lines of a band, where the old ones are right far from the rectangles.
-fn updated_band(
-    alloc: Global,
-    map: &MapLines<'_>,
-    way: Way,
-    old: &[u64],
+/// Makes the stops of the runs upwards and then of those downwards right along the 32 lines of a band that were taken out
+/// of the set.
+fn write_stops(
+    others: &LineSet,
+    bits: &[u64],
+    count: u16,
     rects: &[Rect],
     band: u16,
-) -> Result<Vec<u64>, NoMemory>
-    requires lines { AreMapLines map.now.count map.now.lines.now }
-    requires inside { All (IsRectOf map.now.count map.now.lines.now.words) rects.now }
-    requires band { band < map.now.count / 32 + 1 }
-    requires before { AreBandStops (IsFarFrom rects.now) way map.now.lines.now map.now.count (32 * band) old.now }
-    ensures { IfOk result (λ words. AreBandStops (λ n i. ⊤) way map.now.lines.now map.now.count
-        (32 * band) words.items) }
+    stops: &mut [u64],
+)
+    requires lines { AreMapLines count (band_put (map_lines others.now) band bits.now) }
+    requires inside { All (IsRectOf count others.now.words) rects.now }
+    requires band { band < count / 32 + 1 }
+    requires long { 2 * (32 * others.now.words) ≤ length stops.old }
+    requires up { AreBandStops (IsFarFrom rects.now) Way.Up (band_put (map_lines others.now) band bits.now) count (32 * band)
+        (part_in others.now.words stops.old 0) }
+    requires down { AreBandStops (IsFarFrom rects.now) Way.Down (band_put (map_lines others.now) band bits.now) count
+        (32 * band) (part_in others.now.words stops.old 1) }
+    ensures stays { length stops.new ≡ length stops.old }
+    ensures up { AreBandStops (λ n i. ⊤) Way.Up (band_put (map_lines others.now) band bits.now) count (32 * band)
+        (part_in others.now.words stops.new 0) }
+    ensures down { AreBandStops (λ n i. ⊤) Way.Down (band_put (map_lines others.now) band bits.now) count (32 * band)
+        (part_in others.now.words stops.new 1) }
 {
-    let mut words = copied(alloc, old)?;
-    write_rects(map, way, rects, BAND * band, &mut words);
-    Ok(words)
+    let long = usize::from(BAND) * others.words();
+    let first = BAND * band;
+    let map = MapLines {
+        others,
+        bits,
+        first,
+        count,
+    };
+    write_rects(&map, Way::Up, rects, first, &mut stops[..long]);
+    write_rects(&map, Way::Down, rects, first, &mut stops[long..2 * long]);
 }
 
 /// Makes the stops near the rectangles right along the 32 lines from `first` on. The other bits are right already.
 fn write_rects(map: &MapLines<'_>, way: Way, rects: &[Rect], first: u16, band: &mut [u64])
-    requires lines { AreMapLines map.now.count map.now.lines.now }
-    requires inside { All (IsRectOf map.now.count map.now.lines.now.words) rects.now }
+    requires lines { AreMapLines map.now.count map.now.lines }
+    requires inside { All (IsRectOf map.now.count map.now.lines.words) rects.now }
     requires low { first ≤ 4096 }
-    requires before { AreBandStops (IsFarFrom rects.now) way map.now.lines.now map.now.count first band.old }
+    requires before { AreBandStops (IsFarFrom rects.now) way map.now.lines map.now.count first band.old }
     ensures stays { length band.new ≡ length band.old }
-    ensures stops { AreBandStops (λ n i. ⊤) way map.now.lines.now map.now.count first band.new }
+    ensures stops { AreBandStops (λ n i. ⊤) way map.now.lines map.now.count first band.new }
 {
     for rect in rects {
         write_rect(map, way, *rect, first, band);
@@ -170,20 +237,20 @@ fn write_rects(map: &MapLines<'_>, way: Way, rects: &[Rect], first: u16, band: &
 
 /// Makes the stops near a rectangle right along the 32 lines from `first` on, and keeps the others right.
 fn write_rect(map: &MapLines<'_>, way: Way, rect: Rect, first: u16, band: &mut [u64])
-    requires lines { AreMapLines map.now.count map.now.lines.now }
-    requires rect { IsRectOf map.now.count map.now.lines.now.words rect }
+    requires lines { AreMapLines map.now.count map.now.lines }
+    requires rect { IsRectOf map.now.count map.now.lines.words rect }
     requires low { first ≤ 4096 }
-    requires band { length band.old ≡ 32 * map.now.lines.now.words }
+    requires band { length band.old ≡ 32 * map.now.lines.words }
     ensures stays { length band.new ≡ length band.old }
-    ensures near { (m i : ℕ) → m < 32 → first + m < map.now.count → i / 64 < map.now.lines.now.words
+    ensures near { (m i : ℕ) → m < 32 → first + m < map.now.count → i / 64 < map.now.lines.words
         → IsInTouchedWord rect (first + m) i
-        → IsBandStop way map.now.lines.now map.now.count first band.new m i }
-    ensures kept { (m i : ℕ) → m < 32 → first + m < map.now.count → i / 64 < map.now.lines.now.words
-        → IsBandStop way map.now.lines.now map.now.count first band.old m i
-        → IsBandStop way map.now.lines.now map.now.count first band.new m i }
+        → IsBandStop way map.now.lines map.now.count first band.new m i }
+    ensures kept { (m i : ℕ) → m < 32 → first + m < map.now.count → i / 64 < map.now.lines.words
+        → IsBandStop way map.now.lines map.now.count first band.old m i
+        → IsBandStop way map.now.lines map.now.count first band.new m i }
 {
     let from = rect.j0.saturating_sub(1).max(first);
-    let to = (rect.j1 + 2).min(first + BAND).min(map.count);
+    let to = (rect.j1 + 2).min(first + BAND).min(map.count());
     for n in from..to {
         write_line(map, way, rect, n, first, band);
     }
@@ -191,69 +258,44 @@ fn write_rect(map: &MapLines<'_>, way: Way, rect: Rect, first: u16, band: &mut [
 
 /// Makes the stops near a rectangle right along line `n` of the 32 lines from `first` on, and keeps the others right.
 fn write_line(map: &MapLines<'_>, way: Way, rect: Rect, n: u16, first: u16, band: &mut [u64])
-    requires lines { AreMapLines map.now.count map.now.lines.now }
-    requires rect { IsRectOf map.now.count map.now.lines.now.words rect }
+    requires lines { AreMapLines map.now.count map.now.lines }
+    requires rect { IsRectOf map.now.count map.now.lines.words rect }
     requires line { n < map.now.count }
     requires low { first ≤ n }
     requires high { n < first + 32 }
-    requires band { length band.old ≡ 32 * map.now.lines.now.words }
+    requires band { length band.old ≡ 32 * map.now.lines.words }
     ensures stays { length band.new ≡ length band.old }
     ensures near { (m i : ℕ) → first + m ≡ n → IsInTouchedWord rect n i
-        → IsBandStop way map.now.lines.now map.now.count first band.new m i }
-    ensures kept { (m i : ℕ) → m < 32 → first + m < map.now.count → i / 64 < map.now.lines.now.words
-        → IsBandStop way map.now.lines.now map.now.count first band.old m i
-        → IsBandStop way map.now.lines.now map.now.count first band.new m i }
+        → IsBandStop way map.now.lines map.now.count first band.new m i }
+    ensures kept { (m i : ℕ) → m < 32 → first + m < map.now.count → i / 64 < map.now.lines.words
+        → IsBandStop way map.now.lines map.now.count first band.old m i
+        → IsBandStop way map.now.lines map.now.count first band.new m i }
 {
-    let words = map.lines.words();
+    let words = map.words();
     let start = usize::from(n - first) * words;
     renew_line(map, way, rect, n, &mut band[start..start + words]);
 }
 
 /// Makes the stops near a rectangle right along line `n`, and keeps the others right.
 fn renew_line(map: &MapLines<'_>, way: Way, rect: Rect, n: u16, stops: &mut [u64])
-    requires lines { AreMapLines map.now.count map.now.lines.now }
-    requires rect { IsRectOf map.now.count map.now.lines.now.words rect }
+    requires lines { AreMapLines map.now.count map.now.lines }
+    requires rect { IsRectOf map.now.count map.now.lines.words rect }
     requires line { n < map.now.count }
-    requires words { length stops.old ≡ map.now.lines.now.words }
+    requires words { length stops.old ≡ map.now.lines.words }
     ensures stays { length stops.new ≡ length stops.old }
-    ensures near { (i : ℕ) → IsInTouchedWord rect n i → IsStopBit way (lanes_of map.now.lines.now map.now.count n)
+    ensures near { (i : ℕ) → IsInTouchedWord rect n i → IsStopBit way (lanes_of map.now.lines map.now.count n)
         stops.new i }
-    ensures kept { (i : ℕ) → i / 64 < map.now.lines.now.words → IsStopBit way
-        (lanes_of map.now.lines.now map.now.count n) stops.old i
-        → IsStopBit way (lanes_of map.now.lines.now map.now.count n) stops.new i }
+    ensures kept { (i : ℕ) → i / 64 < map.now.lines.words → IsStopBit way
+        (lanes_of map.now.lines map.now.count n) stops.old i
+        → IsStopBit way (lanes_of map.now.lines map.now.count n) stops.new i }
 {
-    let lanes = lanes_at(map.lines, map.count, n);
+    let lanes = map.lanes_at(n);
     let first = usize::from(rect.i0.saturating_sub(1) / 64);
     let last = usize::from((rect.i1 + 1) / 64);
     match way {
         Way::Up => renew_up(&lanes, first, last, stops),
         Way::Down => renew_down(&lanes, first, last, stops),
     }
-}
-
-/// Line `n` of the first `count` lines, with the lines beside it.
-#[inline(always)]
-pub fn lanes_at(lines: &Lines, count: u16, n: u16) -> Lanes<'_>
-    requires lines { AreMapLines count lines.now }
-    requires line { n < count }
-    ensures { result ≡ lanes_of lines.now count n }
-{
-    if is_inner(n) {
-        return lines.inner_lanes(n);
-    }
-    let mid = lines.line(n);
-    let left = lines.line(n + 1);
-    let right = lines.line(line_before(count, n));
-    Lanes { mid, left, right }
-}
-
-/// The line before line `n`. That of the first line is the one after the last.
-fn line_before(count: u16, n: u16) -> u16
-    requires { n < count }
-    ensures before { result ≡ line_before count n }
-    ensures small { result ≤ count }
-{
-    if n == 0 { count } else { n - 1 }
 }
 
 /// The rectangles with columns and rows exchanged.

@@ -6,9 +6,11 @@ ghost use Rattle.lane_rows.specs.Rows.{one_if};
 ghost use Rattle.class_planes.specs.Planes.{IsOutside};
 ghost use Rattle.class_planes.specs.inner.Lines.{IsBand, AreLines, AreLinesBefore};
 ghost use Rattle.class_planes.specs.inner.Reading.{AreRead, AreWhole, IsOfWords, IsUnread, band_bit, numbers_in};
+ghost use Rattle.class_planes.specs.inner.StopLines.{AreSameStops, HasStopsOf, map_lines, part_in};
 
 use crate::band_spans::bands_about;
-use crate::lines::{BAND, Lines, copied, share_bands};
+use crate::line_sets::{LineSet, share_bands};
+use crate::lines::{BAND, copied};
 use crate::read_cells::ReadRect;
 use crate::rows::free_words;
 use nav_types::{Axis, Class, NoMemory, Rect, Rows};
@@ -18,7 +20,7 @@ use std::alloc::Global;
 /// was read of the map of now.
 #[derive(Drop)]
 struct OldRows<'a> {
-    lines: &'a Lines,
+    lines: &'a LineSet,
     rects: &'a [Rect],
     reads: &'a [ReadRect],
 }
@@ -29,19 +31,19 @@ pub fn updated_lines<V: Rows>(
     alloc: Global,
     view: &V,
     class: Class,
-    before: &Lines,
+    before: &LineSet,
     reads: &[ReadRect],
     rects: &[Rect],
-) -> Result<Lines, NoMemory>
+) -> Result<LineSet, NoMemory>
     requires class { class < V.class_count view.now }
     requires read { All (AreRead (V.extent view.now) (V.class_count view.now) (V.passes view.now)) reads.now }
     requires before { AreLinesBefore (λ j i. V.passes view.now class (cell_at i j)) (IsOutside rects.now)
-        ((V.extent view.now).h / 32 + 1) ((V.extent view.now).w / 64 + 1) before.now }
+        ((V.extent view.now).h / 32 + 1) ((V.extent view.now).w / 64 + 1) (map_lines before.now) }
     requires unread { AreLinesBefore (λ j i. V.passes view.now class (cell_at i j)) (IsUnread reads.now)
-        ((V.extent view.now).h / 32 + 1) ((V.extent view.now).w / 64 + 1) before.now }
-    ensures { IfOk result
-        (AreLines (λ j i. V.passes view.now class (cell_at i j)) ((V.extent view.now).h / 32 + 1)
-        ((V.extent view.now).w / 64 + 1)) }
+        ((V.extent view.now).h / 32 + 1) ((V.extent view.now).w / 64 + 1) (map_lines before.now) }
+    ensures lines { IfOk result (λ lines. AreLines (λ j i. V.passes view.now class (cell_at i j))
+        ((V.extent view.now).h / 32 + 1) ((V.extent view.now).w / 64 + 1) (map_lines lines)) }
+    ensures stops { IfOk result (AreSameStops ((V.extent view.now).h / 32 + 1) before.now) }
 {
     let old = OldRows {
         lines: before,
@@ -50,7 +52,7 @@ pub fn updated_lines<V: Rows>(
     };
     let count = view.size().h / BAND + 1;
     let met = bands_about(rects, Axis::Row, count);
-    let mut lines = Lines::with_capacity(alloc, usize::from(count), before.words())?;
+    let mut lines = LineSet::with_capacity(alloc, usize::from(count), before.words())?;
     share_bands(before, 0, met.from, &mut lines)?;
     for band in met.from..met.to {
         push_band(alloc, view, class, &old, band, &mut lines)?;
@@ -66,19 +68,21 @@ fn push_band<V: Rows>(
     class: Class,
     old: &OldRows<'_>,
     band: u16,
-    lines: &mut Lines,
+    lines: &mut LineSet,
 ) -> Result<(), NoMemory>
     requires class { class < V.class_count view.now }
     requires read { All (AreRead (V.extent view.now) (V.class_count view.now) (V.passes view.now)) old.now.reads.now }
     requires before { AreLinesBefore (λ j i. V.passes view.now class (cell_at i j)) (IsOutside old.now.rects.now)
-        ((V.extent view.now).h / 32 + 1) ((V.extent view.now).w / 64 + 1) old.now.lines.now }
+        ((V.extent view.now).h / 32 + 1) ((V.extent view.now).w / 64 + 1) (map_lines old.now.lines.now) }
     requires unread { AreLinesBefore (λ j i. V.passes view.now class (cell_at i j)) (IsUnread old.now.reads.now)
-        ((V.extent view.now).h / 32 + 1) ((V.extent view.now).w / 64 + 1) old.now.lines.now }
+        ((V.extent view.now).h / 32 + 1) ((V.extent view.now).w / 64 + 1) (map_lines old.now.lines.now) }
     requires band { band < (V.extent view.now).h / 32 + 1 }
     requires lines { AreLines (λ j i. V.passes view.now class (cell_at i j)) band
-        ((V.extent view.now).w / 64 + 1) lines.old }
-    ensures { OnOk result (AreLines (λ j i. V.passes view.now class (cell_at i j)) (band + 1)
-        ((V.extent view.now).w / 64 + 1) lines.new) }
+        ((V.extent view.now).w / 64 + 1) (map_lines lines.old) }
+    requires stops { AreSameStops band old.now.lines.now lines.old }
+    ensures lines { OnOk result (AreLines (λ j i. V.passes view.now class (cell_at i j)) (band + 1)
+        ((V.extent view.now).w / 64 + 1) (map_lines lines.new)) }
+    ensures stops { OnOk result (AreSameStops (band + 1) old.now.lines.now lines.new) }
 {
     if !is_met(old.rects, BAND * band) {
         return lines.share(old.lines, band);
@@ -102,20 +106,22 @@ fn updated_band<V: Rows>(
     alloc: Global,
     view: &V,
     class: Class,
-    before: &Lines,
+    before: &LineSet,
     reads: &[ReadRect],
     band: u16,
 ) -> Result<Vec<u64>, NoMemory>
     requires class { class < V.class_count view.now }
     requires read { All (AreRead (V.extent view.now) (V.class_count view.now) (V.passes view.now)) reads.now }
     requires unread { AreLinesBefore (λ j i. V.passes view.now class (cell_at i j)) (IsUnread reads.now)
-        ((V.extent view.now).h / 32 + 1) ((V.extent view.now).w / 64 + 1) before.now }
+        ((V.extent view.now).h / 32 + 1) ((V.extent view.now).w / 64 + 1) (map_lines before.now) }
     requires band { band < (V.extent view.now).h / 32 + 1 }
-    ensures { IfOk result (λ words. IsBand (λ j i. V.passes view.now class (cell_at i j)) (32 * band)
-        ((V.extent view.now).w / 64 + 1) 32 words.items) }
+    ensures lines { IfOk result (λ words. IsBand (λ j i. V.passes view.now class (cell_at i j)) (32 * band)
+        ((V.extent view.now).w / 64 + 1) 32 (part_in before.now.words words.items 0)) }
+    ensures stops { IfOk result (λ words. HasStopsOf before.now band words.items) }
 {
     let mut words = copied(alloc, before.band(band))?;
-    write_rects(view, class, reads, BAND * band, &mut words);
+    let (bits, _) = words.split_at_mut(usize::from(BAND) * before.words());
+    write_rects(view, class, reads, BAND * band, bits);
     Ok(words)
 }
 

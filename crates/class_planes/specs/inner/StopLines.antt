@@ -1,5 +1,5 @@
 -- Where the straight runs along the lines of a map have a stop for a side that opens, whatever the aim.
-use Rattle.std.specs.Prelude.{ℕ, zero, suc, ⊤, All, ◌≡◌, ◌<◌, ◌≤◌, ◌+◌, ◌-◌, ◌*◌, ◌/◌, ◌++◌, ◌∷◌, [], min, max, List, length, slice_index_or}
+use Rattle.std.specs.Prelude.{ℕ, zero, suc, ⊤, All, ◌≡◌, ◌<◌, ◌≤◌, ◌+◌, ◌-◌, ◌*◌, ◌/◌, [], min, max, map, List, length, slice_index_or, slice_set}
 use Rattle.nav_types.specs.declared.limits.TheConstants.{MAX_SIDE}
 use Rattle.nav_types.specs.declared.cells.Rect.{Rect}
 use Rattle.nav_types.specs.Cells.{cell_at}
@@ -114,37 +114,43 @@ abbrev pub AreStopsBefore : Way → List Rect → ℕ → LineTable → LineTabl
 AreStopsBefore way rects count lines stops =
     AreStopsWhere (IsFarFrom rects) way lines count (count / 32 + 1) stops
 
--- ---- tables for both ways
+-- ---- the lines of a map and the stops along them in one table, whose bands have 96 lines: 32 of the map, the stops of
+-- the runs upwards along these, and those of the runs downwards
 
--- the words of a band for the runs upwards, and for those downwards
-pub record BothWords : Type 0 where
-  pub up : List ℕ
-  pub down : List ℕ
+-- the 32 lines of a band that come after so many times 32
+abbrev pub part_in : ℕ → List ℕ → ℕ → List ℕ
+part_in words band k = line_in (32 * words) band k
 
-abbrev pub up_words : BothWords → List ℕ
-up_words band = band.up
+abbrev pub part_of : LineTable → ℕ → LineTable
+part_of table k = record { words = table.words; bands = map (λ band. part_in table.words band k) table.bands }
 
-abbrev pub down_words : BothWords → List ℕ
-down_words band = band.down
+-- the lines of the map
+abbrev pub map_lines : LineTable → LineTable
+map_lines table = part_of table 0
 
--- the stops of the runs upwards, and those of the runs downwards
-pub record BothTables : Type 0 where
-  pub up : LineTable
-  pub down : LineTable
+-- which lines of a band are the stops of the runs that way
+abbrev pub part_along : Way → ℕ
+part_along Up = 1
+part_along Down = 2
 
--- the stops of the runs one way
-abbrev pub stops_along : Way → BothTables → LineTable
-stops_along Up stops = stops.up
-stops_along Down stops = stops.down
+-- the stops of the runs that way
+abbrev pub stops_along : Way → LineTable → LineTable
+stops_along way table = part_of table (part_along way)
 
--- lines of so many words, and no band yet
-abbrev pub no_bands : ℕ → LineTable
-no_bands words = record { words = words; bands = [] }
+-- the band has the stops of band b of a table
+abbrev pub HasStopsOf : LineTable → ℕ → List ℕ → Type 0
+HasStopsOf table b band = (way : Way) → part_in table.words band (part_along way)
+    ≡ part_in table.words (slice_index_or table.bands b []) (part_along way)
 
--- a table with one band more
-abbrev pub with_band : LineTable → List ℕ → LineTable
-with_band table band = record { words = table.words; bands = table.bands ++ band ∷ [] }
+-- the first so many bands of a table have the stops of those of another one
+abbrev pub AreSameStops : ℕ → LineTable → LineTable → Type 0
+AreSameStops bands before table = (b : ℕ) → b < bands → HasStopsOf before b (slice_index_or table.bands b [])
 
--- a table with some bands more
-abbrev pub with_bands : LineTable → List (List ℕ) → LineTable
-with_bands table bands = record { words = table.words; bands = table.bands ++ bands }
+-- the table with these words of one band
+abbrev pub band_put : LineTable → ℕ → List ℕ → LineTable
+band_put table b band = record { words = table.words; bands = slice_set table.bands b band }
+
+-- the lines of a map, and how many of them are the map's
+pub record MapTable : Type 0 where
+  pub count : ℕ
+  pub lines : LineTable

@@ -54,7 +54,7 @@ part_right way lines count first n m i k start wide band out new is same line wa
 
 pub renew_line-requires-clause-words : goal.renew_line-requires-clause-words
 renew_line-requires-clause-words c =
-    let words : ℕ = c.args.map.now.lines.now.words in
+    let words : ℕ = c.args.map.now.lines.words in
     let band : List ℕ = c.args.band.now in
     let k : ℕ = c.args.n - c.args.first in
     let start : ℕ = c.from.result * c.words-words.result in
@@ -67,7 +67,7 @@ renew_line-requires-clause-words c =
 
 pub returns-clause-near : goal.returns-clause-near
 returns-clause-near c m i line near =
-    let lines : LineTable = c.args.map.now.lines.now in
+    let lines : LineTable = c.args.map.now.lines in
     let k : ℕ = c.args.n - c.args.first in
     let band : List ℕ = c.args.band.now in
     let out : List ℕ = c.renew_line.new.stops in
@@ -82,7 +82,7 @@ returns-clause-near c m i line near =
 
 pub returns-clause-kept : goal.returns-clause-kept
 returns-clause-kept c m i small inside within was =
-    let lines : LineTable = c.args.map.now.lines.now in
+    let lines : LineTable = c.args.map.now.lines in
     let k : ℕ = c.args.n - c.args.first in
     let band : List ℕ = c.args.band.now in
     let out : List ℕ = c.renew_line.new.stops in

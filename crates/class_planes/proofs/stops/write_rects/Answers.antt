@@ -21,7 +21,7 @@ loop-rect-preserved c =
     let none : Rect = record { i0 = 0; j0 = 0; i1 = 0; j1 = 0 } in
     let rects : List Rect = c.args.rects.now in
     let at : ℕ = c.loop-rect.rect-index in
-    stops_but_more c.args.way c.args.map.now.lines.now c.args.map.now.count c.args.first rects at (get_or rects at none) c.loop-rect.band
+    stops_but_more c.args.way c.args.map.now.lines c.args.map.now.count c.args.first rects at (get_or rects at none) c.loop-rect.band
     c.write_rect.new.band (λ d. get_or_default rects at d none c.loop-rect-test.true) c.write_rect.ensures.near
     c.write_rect.ensures.kept c.loop-rect.invariant
 

@@ -1,4 +1,5 @@
 use Rattle.std.proofs.Common.{arith}
+use Rattle.class_planes.specs.inner.StopLines.{map_lines}
 use Rattle.class_planes.proofs.TightLemmas.{same_more}
 use Rattle.class_planes.proofs.tight_rects.first_changed.Goals as goal
 
@@ -7,7 +8,7 @@ loop-n-init c n i low below west east = absurd (omega (arith, low, below))
 
 pub loop-n-preserved : goal.loop-n-preserved
 loop-n-preserved c =
-    same_more c.args.before.now c.args.lines.now c.args.rect c.args.rect.j0 c.loop-n.n c.loop-n.invariant
+    same_more (map_lines c.args.before.now) (map_lines c.args.lines.now) c.args.rect c.args.rect.j0 c.loop-n.n c.loop-n.invariant
     (c.is_same.ensures c.if-not-is_same.false)
 
 pub returns-clause-same : goal.returns-clause-same

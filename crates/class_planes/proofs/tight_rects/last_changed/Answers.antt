@@ -1,5 +1,5 @@
 use Rattle.std.proofs.Common.{ℕ, ◌≡◌, ◌+◌, ◌-◌, subst, arith}
-use Rattle.class_planes.specs.inner.StopLines.{AreSameIn}
+use Rattle.class_planes.specs.inner.StopLines.{AreSameIn, map_lines}
 use Rattle.class_planes.proofs.TightLemmas.{more_same}
 use Rattle.class_planes.proofs.tight_rects.last_changed.Goals as goal
 
@@ -19,7 +19,7 @@ lines-preserved c =
     record {
       low = omega (arith, some);
       high = omega (arith, high);
-      same = subst (λ (m : ℕ). AreSameIn c.args.before.now c.args.lines.now c.args.rect m (c.args.rect.j1 + 1)) there
-          (more_same c.args.before.now c.args.lines.now c.args.rect n (c.args.rect.j1 + 1) c.lines.invariant.same
+      same = subst (λ (m : ℕ). AreSameIn (map_lines c.args.before.now) (map_lines c.args.lines.now) c.args.rect m (c.args.rect.j1 + 1)) there
+          (more_same (map_lines c.args.before.now) (map_lines c.args.lines.now) c.args.rect n (c.args.rect.j1 + 1) c.lines.invariant.same
           (c.is_same.ensures c.if-not-is_same.false));
     }

@@ -3,7 +3,7 @@ use Rattle.std.specs.Prelude.{All}
 use Rattle.std.proofs.lemmas.List.{get_or_default}
 use Rattle.std.proofs.lemmas.List.Elements.{All-push, All-nil}
 use Rattle.nav_types.specs.declared.cells.Rect.{Rect}
-use Rattle.class_planes.specs.inner.StopLines.{IsRectOf}
+use Rattle.class_planes.specs.inner.StopLines.{IsRectOf, map_lines}
 use Rattle.class_planes.proofs.TightLemmas.{tight_more}
 use Rattle.class_planes.proofs.tight_rects.tight_rects.Goals as goal
 
@@ -29,7 +29,7 @@ loop-rect-preserved c =
       inside = subst (All (IsRectOf c.args.count c.args.lines.now.words)) (sym c.in_ok-push.ensures.items)
           (All-push (IsRectOf c.args.count c.args.lines.now.words) c.loop-rect.tight.items changed
           c.loop-rect.invariant.inside c.tight_rect-changed.ensures.inside);
-      same = tight_more c.args.count c.args.before.now c.args.lines.now rects at (get_or rects at none) changed
+      same = tight_more c.args.count (map_lines c.args.before.now) (map_lines c.args.lines.now) rects at (get_or rects at none) changed
           c.loop-rect.tight.items c.push.new.self.items (λ d. get_or_default rects at d none c.loop-rect-test.true)
           c.in_ok-push.ensures.items c.tight_rect-changed.ensures.west c.tight_rect-changed.ensures.east
           c.tight_rect-changed.ensures.south c.tight_rect-changed.ensures.north c.loop-rect.invariant.same;

@@ -4,6 +4,7 @@ use Rattle.std.proofs.lemmas.Bool.{cases_lt}
 use Rattle.nav_types.specs.Cells.{cell_at}
 use Rattle.lane_rows.specs.Rows.{one_if}
 use Rattle.class_planes.specs.inner.Lines.{RowTable, free_cell}
+use Rattle.class_planes.specs.inner.StopLines.{map_lines}
 use Rattle.class_planes.proofs.transposed.read_columns.Goals as goal
 
 pub read_band-requires-clause-blank : goal.read_band-requires-clause-blank
@@ -15,7 +16,7 @@ read_band-requires-2-clause-blank c j below =
 
 pub returns-clause-bits : goal.returns-clause-bits
 returns-clause-bits c j k below small =
-    let table : RowTable = record { size = c.args.map.now.size; rows = c.args.map.now.rows.now } in
+    let table : RowTable = record { size = c.args.map.now.size; rows = map_lines c.args.map.now.rows.now } in
     let w : ℕ = c.args.w in
     let one = c.read_band.new.numbers in
     let two = c.read_band-2.new.numbers in

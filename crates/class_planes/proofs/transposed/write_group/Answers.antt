@@ -1,6 +1,7 @@
 use Rattle.std.proofs.Common.{ℕ, ◌<◌, ◌+◌, ◌-◌, ◌*◌, ◌/◌, ◌%◌, List, ◌∙◌, arith}
 use Rattle.class_planes.specs.inner.Lines.{RowTable}
 use Rattle.class_planes.specs.inner.Reading.{IsColumnBit}
+use Rattle.class_planes.specs.inner.StopLines.{map_lines}
 use Rattle.class_planes.proofs.BitLemmas.{zero_at}
 use Rattle.class_planes.proofs.ColumnLemmas.{group_bit, in_group_or_not}
 use Rattle.class_planes.proofs.transposed.write_group.Goals as goal
@@ -10,7 +11,7 @@ read_columns-requires-clause-blank c j = zero_at 64 j
 
 pub returns-clause-set : goal.returns-clause-set
 returns-clause-set c m j low high word =
-    let table : RowTable = record { size = c.args.map.now.size; rows = c.args.map.now.rows.now } in
+    let table : RowTable = record { size = c.args.map.now.size; rows = map_lines c.args.map.now.rows.now } in
     let k : ℕ = m - 16 * c.args.half in
     let numbers : List ℕ = c.read_columns.new.numbers in
     let small : k < 16 = omega (arith, low, high, c.requires.span) in
@@ -21,7 +22,7 @@ returns-clause-set c m j low high word =
 
 pub returns-clause-kept : goal.returns-clause-kept
 returns-clause-kept c m j small within was =
-    let table : RowTable = record { size = c.args.map.now.size; rows = c.args.map.now.rows.now } in
+    let table : RowTable = record { size = c.args.map.now.size; rows = map_lines c.args.map.now.rows.now } in
     let numbers : List ℕ = c.read_columns.new.numbers in
     in_group_or_not {P = IsColumnBit table c.args.band c.write_word.new.words m j} (16 * c.args.half + c.args.span.from)
     (16 * c.args.half + c.args.span.to) c.args.w m (j / 64)

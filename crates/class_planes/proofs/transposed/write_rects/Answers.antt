@@ -2,6 +2,7 @@ use Rattle.std.proofs.Common.{ℕ, List, get_or, arith}
 use Rattle.std.proofs.lemmas.List.{get_or_default}
 use Rattle.nav_types.specs.declared.cells.Rect.{Rect}
 use Rattle.class_planes.specs.inner.Lines.{RowTable}
+use Rattle.class_planes.specs.inner.StopLines.{map_lines}
 use Rattle.class_planes.proofs.ColumnLemmas.{columns_but_more}
 use Rattle.class_planes.proofs.transposed.write_rects.Goals as goal
 
@@ -16,7 +17,7 @@ write_rect-requires-clause-inside c =
 
 pub loop-rect-preserved : goal.loop-rect-preserved
 loop-rect-preserved c =
-    let table : RowTable = record { size = c.args.map.now.size; rows = c.args.map.now.rows.now } in
+    let table : RowTable = record { size = c.args.map.now.size; rows = map_lines c.args.map.now.rows.now } in
     let none : Rect = record { i0 = 0; j0 = 0; i1 = 0; j1 = 0 } in
     let rects : List Rect = c.args.rects.now in
     let at : ℕ = c.loop-rect.rect-index in

@@ -1,42 +1,84 @@
-use Rattle.std.proofs.Common.{ℕ, Bool, [], List, length, ◌≡◌, ◌+◌, ◌*◌, ◌/◌, get_or, sym, ap, ◌∙◌, subst, arith}
+use Rattle.std.proofs.Common.{ℕ, Bool, List, [], length, ◌≡◌, ◌+◌, ◌*◌, ◌/◌, ◌++◌, get_or, sym, ap, ap₂, ◌∙◌, subst, arith}
 use Rattle.std.proofs.lemmas.List.{with_items_is}
-use Rattle.lane_rows.specs.Rows.{one_if}
 use Rattle.nav_types.specs.Cells.{cell_at}
-use Rattle.class_planes.specs.inner.Lines.{IsBand}
+use Rattle.lane_rows.specs.Rows.{one_if}
+use Rattle.class_planes.specs.inner.Lines.{IsBand, LineTable}
 use Rattle.class_planes.specs.inner.Reading.{band_bit}
+use Rattle.class_planes.specs.inner.StopLines.{HasStopsOf, map_lines, part_in}
 use Rattle.class_planes.proofs.CellLemmas.{east_of}
 use Rattle.class_planes.proofs.ReadLemmas.{band_right, bit_of_band}
+use Rattle.class_planes.proofs.SetLemmas.{bits_long, part_front, same_long, split_bits, stops_kept}
 use Rattle.class_planes.proofs.updates.updated_band.Goals as goal
+
+pub split_at_mut-bits-requires : goal.split_at_mut-bits-requires
+split_at_mut-bits-requires g c =
+    let before : LineTable = c.args.before.now in
+    let lines = c.requires.unread.lines in
+    let b : ℕ = c.args.band in
+    let long = bits_long before b (omega (arith, c.requires.band, lines.many))
+    ((lines.each b c.requires.band).long ∙ ap (λ (w : ℕ). 32 * w) (sym lines.wide)) in
+    let whole = c.deref_mut.ensures.value ∙ c.in_ok-words.ensures ∙ c.band.ensures in
+    omega (arith, long, ap length whole, ap₂ (λ (n w : ℕ). n * w) c.from.ensures c.words.ensures)
 
 pub write_rects-requires-clause-band : goal.write_rects-requires-clause-band
 write_rects-requires-clause-band g c =
-    let was = c.requires.unread.lines.each c.args.band c.requires.band in
-    ap length c.deref_mut.ensures.value ∙ ap length c.in_ok-words.ensures ∙ ap length c.band.ensures ∙ was.long
+    c.split_at_mut-bits.ensures.front_len ∙ ap₂ (λ (n w : ℕ). n * w) c.from.ensures c.words.ensures
+    ∙ ap (λ (w : ℕ). 32 * w) c.requires.unread.lines.wide
 
 pub write_rects-requires-clause-before : goal.write_rects-requires-clause-before
 write_rects-requires-clause-before g c m i small within out =
-    let view = c.args.view.now in
-    let words : ℕ = (g.V.View.extent view).w / 64 + 1 in
+    let words : ℕ = (g.V.View.extent c.args.view.now).w / 64 + 1 in
     let before = c.requires.unread in
-    let was : List ℕ = get_or c.args.before.now.bands c.args.band [] in
-    let same : c.deref_mut.result.now ≡ was =
-    c.deref_mut.ensures.value ∙ c.in_ok-words.ensures ∙ c.band.ensures in
+    let table : LineTable = c.args.before.now in
+    let b : ℕ = c.args.band in
+    let bits : List ℕ = c.split_at_mut-bits.result.0.now in
+    let rest : List ℕ = c.split_at_mut-bits.result.1.now in
+    let whole : bits ++ rest ≡ get_or table.bands b [] = sym c.split_at_mut-bits.ensures.value
+    ∙ c.deref_mut.ensures.value ∙ c.in_ok-words.ensures ∙ c.band.ensures in
+    let long : length bits ≡ 32 * table.words =
+    c.split_at_mut-bits.ensures.front_len ∙ ap₂ (λ (n w : ℕ). n * w) c.from.ensures c.words.ensures in
+    let same = split_bits table b bits rest (omega (arith, c.requires.band, before.lines.many)) long whole in
     ap (λ (xs : List ℕ). band_bit words xs m i) same
-    ∙ bit_of_band before.earlier (32 * c.args.band) words m i was (before.lines.each c.args.band c.requires.band) small within
-    ∙ ap one_if (before.same (32 * c.args.band + m) i out)
+    ∙ bit_of_band before.earlier (32 * b) words m i (get_or (map_lines table).bands b [])
+    (before.lines.each b c.requires.band) small within
+    ∙ ap one_if (before.same (32 * b + m) i out)
 
-pub returns : goal.returns
-returns g c =
+pub returns-clause-lines : goal.returns-clause-lines
+returns-clause-lines g c =
     let view = c.args.view.now in
-    let words : ℕ = (g.V.View.extent view).w / 64 + 1 in
     let free : ℕ → ℕ → Bool = λ j i. g.V.View.passes view c.args.class (cell_at i j) in
-    let was = c.requires.unread.lines.each c.args.band c.requires.band in
-    let band : List ℕ = c.write_rects.new.band in
-    let kept = with_items_is c.in_ok-words.words band (c.write_rects.auto.band ∙ c.deref_mut.ensures.len) in
-    let long : length band ≡ 32 * words = c.write_rects.ensures.stays ∙ ap length c.deref_mut.ensures.value
-    ∙ ap length c.in_ok-words.ensures ∙ ap length c.band.ensures ∙ was.long in
-    subst (IsBand free (32 * c.args.band) words 32) (sym kept)
-    (band_right free (32 * c.args.band) words band long
+    let words : ℕ = (g.V.View.extent c.args.view.now).w / 64 + 1 in
+    let before = c.requires.unread in
+    let table : LineTable = c.args.before.now in
+    let bits : List ℕ = c.split_at_mut-bits.result.0.now in
+    let rest : List ℕ = c.split_at_mut-bits.result.1.now in
+    let new : List ℕ = c.write_rects.new.band in
+    let stays : length new ≡ length bits = c.write_rects.ensures.stays in
+    let long : length bits ≡ 32 * table.words =
+    c.split_at_mut-bits.ensures.front_len ∙ ap₂ (λ (n w : ℕ). n * w) c.from.ensures c.words.ensures in
+    let kept = with_items_is c.in_ok-words.words (new ++ rest)
+    (same_long bits new rest stays ∙ ap length (sym c.split_at_mut-bits.ensures.value) ∙ c.deref_mut.ensures.len) in
+    let part = ap (λ (xs : List ℕ). part_in table.words xs 0) kept
+    ∙ part_front (32 * table.words) new rest (stays ∙ long) in
+    let wide : length new ≡ 32 * words = stays ∙ long ∙ ap (λ (w : ℕ). 32 * w) before.lines.wide in
+    subst (IsBand free (32 * c.args.band) words 32) (sym part)
+    (band_right free (32 * c.args.band) words new wide
     (λ n i past. east_of (g.V.View.extent view) (g.V.View.passes view c.args.class) i n
     (g.met.V.View.within view c.args.class) (omega (arith, past)))
     c.write_rects.ensures.bits)
+
+pub returns-clause-stops : goal.returns-clause-stops
+returns-clause-stops g c =
+    let table : LineTable = c.args.before.now in
+    let b : ℕ = c.args.band in
+    let bits : List ℕ = c.split_at_mut-bits.result.0.now in
+    let rest : List ℕ = c.split_at_mut-bits.result.1.now in
+    let new : List ℕ = c.write_rects.new.band in
+    let stays : length new ≡ length bits = c.write_rects.ensures.stays in
+    let whole : bits ++ rest ≡ get_or table.bands b [] = sym c.split_at_mut-bits.ensures.value
+    ∙ c.deref_mut.ensures.value ∙ c.in_ok-words.ensures ∙ c.band.ensures in
+    let long : length bits ≡ 32 * table.words =
+    c.split_at_mut-bits.ensures.front_len ∙ ap₂ (λ (n w : ℕ). n * w) c.from.ensures c.words.ensures in
+    let kept = with_items_is c.in_ok-words.words (new ++ rest)
+    (same_long bits new rest stays ∙ ap length (sym c.split_at_mut-bits.ensures.value) ∙ c.deref_mut.ensures.len) in
+    subst (HasStopsOf table b) (sym kept) (stops_kept table b bits new rest long (stays ∙ long) whole)

@@ -9,7 +9,7 @@ use Rattle.class_planes.proofs.class_plane.ClassPlane.has_jump_point.Goals as go
 pub has_jump_point-requires : goal.has_jump_point-requires
 has_jump_point-requires c =
     let axis = c.args.straight.axis in
-    let stops : LineTable = stops_along c.args.straight.way c.line_set.result.now.stops in
+    let stops : LineTable = stops_along c.args.straight.way c.line_set.result.now in
     let at : HasPlace stops c.line_on.result c.place_on.result =
     subst (λ (n : ℕ). HasPlace stops n c.place_on.result) (sym c.line_on.ensures)
     (subst (HasPlace stops (line_on axis c.args.cell)) (sym c.place_on.ensures)
@@ -18,6 +18,6 @@ has_jump_point-requires c =
 
 pub returns : goal.returns
 returns c =
-    let stops : LineTable = stops_along c.args.straight.way c.line_set.result.now.stops in
+    let stops : LineTable = stops_along c.args.straight.way c.line_set.result.now in
     let known = stop_known c.args.self.now c.args.straight c.args.cell c.line_set.result.now c.line_set.ensures c.requires in
     (known.0, (known.1.0, c.has_jump_point.ensures ∙ ap₂ (free_at stops) c.line_on.ensures c.place_on.ensures ∙ known.1.1))

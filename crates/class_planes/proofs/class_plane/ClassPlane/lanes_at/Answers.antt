@@ -2,7 +2,7 @@ use Rattle.std.proofs.Common.{ℕ, ◌<◌, ◌+◌, ◌/◌, length, ap, ap₂,
 use Rattle.nav_types.specs.Lines.{cell_on, line_on, side_along}
 use Rattle.class_planes.specs.Planes.{is_passable}
 use Rattle.class_planes.specs.inner.Runs.{AreLanesOf, LaneWords}
-use Rattle.class_planes.specs.inner.StopLines.{AreMapLines, lanes_of}
+use Rattle.class_planes.specs.inner.StopLines.{AreMapLines, lanes_of, map_lines}
 use Rattle.class_planes.specs.inner.Tracks.{line_count}
 use Rattle.class_planes.proofs.PlaneLemmas.{only_inside}
 use Rattle.class_planes.proofs.StopLineLemmas.{axis_lanes, axis_lines, on_line}
@@ -16,8 +16,8 @@ lanes_at-requires c =
     let line : line_on axis c.args.cell < line_count axis plane.size =
     (on_line axis plane.size c.args.cell (only_inside plane c.args.cell c.requires)).0 in
     record {
-      lines = subst (λ (n : ℕ). AreMapLines n c.line_set.result.now.lines) (sym c.line_count.ensures)
-          (axis_lines axis plane.size (λ n k. is_passable plane (cell_on axis n k)) c.line_set.result.now.lines
+      lines = subst (λ (n : ℕ). AreMapLines n (map_lines c.line_set.result.now)) (sym c.line_count.ensures)
+          (axis_lines axis plane.size (λ n k. is_passable plane (cell_on axis n k)) (map_lines c.line_set.result.now)
           c.line_set.ensures.lines);
       line = omega (arith, line, c.line_count.ensures, c.line_on.ensures);
     }
@@ -30,7 +30,7 @@ returns-clause-words c =
     (on_line axis plane.size c.args.cell (only_inside plane c.args.cell c.requires)).0 in
     ap (λ (lanes : LaneWords). length lanes.mid) c.lanes_at.ensures
     ∙ line_long (λ n k. is_passable plane (cell_on axis n k)) (line_count axis plane.size / 32 + 1)
-    (side_along axis plane.size / 64 + 1) c.line_on.result c.line_set.result.now.lines c.line_set.ensures.lines
+    (side_along axis plane.size / 64 + 1) c.line_on.result (map_lines c.line_set.result.now) c.line_set.ensures.lines
     (omega (arith, line, c.line_on.ensures))
 
 pub returns-clause-bits : goal.returns-clause-bits
@@ -40,5 +40,5 @@ returns-clause-bits c =
     let line : line_on axis c.args.cell < line_count axis plane.size =
     (on_line axis plane.size c.args.cell (only_inside plane c.args.cell c.requires)).0 in
     subst (AreLanesOf (λ n k. is_passable plane (cell_on axis n k)) (line_on axis c.args.cell))
-    (sym (c.lanes_at.ensures ∙ ap₂ (lanes_of c.line_set.result.now.lines) c.line_count.ensures c.line_on.ensures))
+    (sym (c.lanes_at.ensures ∙ ap₂ (lanes_of (map_lines c.line_set.result.now)) c.line_count.ensures c.line_on.ensures))
     (axis_lanes axis plane c.line_set.result.now (line_on axis c.args.cell) c.line_set.ensures line)
