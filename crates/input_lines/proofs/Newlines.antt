@@ -4,8 +4,9 @@ use Rattle.std.specs.List.{position_or_len}
 use Rattle.std.proofs.lemmas.List.{drop_all, drop_more, get_or-take, take-append-drop}
 use Rattle.std.proofs.lemmas.List.Elements.{All-from_get_or}
 use Rattle.std.proofs.lemmas.List.Quantifiers.{position-Some}
-use Rattle.std.proofs.lemmas.List.Sums.{fails_before_first}
-use Rattle.std.proofs.lemmas.Bool.{eqb-true, eqb-false, ltb-false}
+use Rattle.std.proofs.lemmas.List.Sums.{fails_before_first, position_or_len_is}
+use Rattle.std.proofs.lemmas.Bool.{eqb-true, eqb-false, ltb-false, eq-eqb, ne_eqb}
+use Rattle.memchr.specs.Find.{IsFirstByte, is_byte}
 use Rattle.input_lines.specs.Lines.{IsPlain}
 
 abbrev pub is_newline : ℕ → Bool
@@ -39,6 +40,21 @@ pub no_newline : (bs : List ℕ) → position is_newline bs ≡ None → IsPlain
 no_newline bs e =
     let past : length bs ≤ position_or_len is_newline bs = ltb-false _ _ (not_below (ltb (position_or_len is_newline bs) (length bs)) _ e) in
     All-from_get_or (λ byte. byte ≢ 10) bs 0 (λ i low. eqb-false (get_or bs i 0) 10 (fails_before_first is_newline bs i 0 (omega arith)))
+
+-- an answer that is the first place of a newline
+first_place : (bs : List ℕ) (at : ℕ) (b : Bool) → position_or_len is_newline bs ≡ at → ltb at (length bs) ≡ b → cond b (Some at) None ≡ position is_newline bs
+first_place bs at b e low = sym (ap (λ n. cond (ltb n (length bs)) (Some n) None) e ∙ ap (λ t. cond t (Some at) None) low)
+
+pub found_newline : (bs : List ℕ) (found : Option ℕ) → IsFirstByte (is_byte 10) bs found → found ≡ position is_newline bs
+found_newline bs None none =
+    first_place bs (length bs) false
+    (position_or_len_is is_newline bs (length bs) 0 (omega arith) (λ k low. ne_eqb _ 10 (λ e. none k (omega arith) low (eq-eqb _ 10 e))) (λ low. absurd (omega arith)))
+    (grind arith)
+found_newline bs (Some at) first =
+    let before = first.0 in
+    first_place bs at true
+    (position_or_len_is is_newline bs at 0 (omega (arith, before.high)) (λ k low. ne_eqb _ 10 (λ e. before.before k (omega arith) low (eq-eqb _ 10 e))) (λ low. first.1))
+    (grind (arith, before.high))
 
 -- a list of bytes has a newline, behind plain bytes, or none
 pub cut_at_newline : (bs : List ℕ) → IsPlain bs ⊎ ((part : List ℕ) × (more : List ℕ) × IsPlain part × (bs ≡ part ++ 10 ∷ more))

@@ -8,6 +8,7 @@ ghost use Rattle.input_lines.specs.Lines.{first_line};
 
 use crate::faults::LineFault;
 use io_edges::{Failed, Source};
+use memchr::memchr;
 use nav_types::NoMemory;
 use std::alloc::Global;
 use std::marker::Model;
@@ -146,7 +147,7 @@ pub(crate) fn first_newline(bytes: &[u8]) -> Option<usize>
     ensures place { result ≡ position (λ byte. byte == 10) bytes.now }
     ensures within { IfSome result (λ at. at < length bytes.now) }
 {
-    bytes.iter().position(|byte| *byte == b'\n')
+    memchr(b'\n', bytes)
 }
 
 /// The bytes up to the first newline, and all where there is none.
