@@ -1,17 +1,24 @@
--- The test of a form's keys: an object has each key once, so whether a key is there and how often it stands are one question.
-use Rattle.std.proofs.Common.{◌≡◌, ◌==◌, ◌&&◌, ◌||◌, ℕ, List, [], ◌∷◌, map, Bool, Some, is_some, String, Global, string_bytes, string_cmp, refl, ap, sym, ◌∙◌}
+-- The test of a form's keys: an object has each key once, so whether a key is there and how often it stands are one question,
+-- and where it has as many members as there are keys, and each of these, it has no other.
+use Rattle.std.proofs.Common.{◌≡◌, ◌==◌, ◌&&◌, ℕ, suc, List, [], ◌∷◌, map, length, Bool, true, false, Some, is_some, String, Global, string_cmp, refl, ap, sym, ◌∙◌, eq-eqb}
 use Rattle.std.specs.Prelude.{count_by, bytes_eq}
-use Rattle.std.specs.List.{list_all, list_any}
+use Rattle.std.specs.List.{list_all}
 use Rattle.std.specs.List.Sorted.{IsStrictlySortedBy}
 use Rattle.std.specs.Map.{keys_of}
-use Rattle.serde_json.specs.Data.{Data, null, boolean, number, string, array, object}
+use Rattle.std.proofs.lemmas.List.{length-map}
+use Rattle.std.proofs.lemmas.Bool.Decides.{Decides-eqb}
+use Rattle.serde_json.specs.Data.{Data, null, boolean, number, string, array, object, Members}
 use Rattle.serde_json.specs.Find.{get, get_member, as_object}
 use Rattle.serde_json.specs.View.{members_view}
 use Rattle.serde_json.specs.declared.value.Value.{Value}
 use Rattle.class_config.specs.Forms as form
 use Rattle.class_config.proofs.FormKeys.{stands_once}
 use Rattle.script_text.specs.declared.causes.keys.Key.{Key}
-use Rattle.script_text.specs.Table.{key_text}
+use Rattle.script_text.specs.declared.table.Form.{Form}
+use Rattle.script_text.specs.Table.{key_text, texts_of}
+use Rattle.script_text.specs.Table as table
+use Rattle.script_text.proofs.Members.{are_distinct, are_asked, held, members-as_many, asked_by_count}
+use Rattle.script_text.proofs.FormTable.{texts_distinct}
 
 -- each key that is asked for is there, and so stands once
 each_once : (keys : List Key) (es : List (String Global × Value)) → IsStrictlySortedBy string_cmp (keys_of es)
@@ -22,32 +29,50 @@ each_once (k ∷ ks) es sorted =
     ap (λ b. b && list_all (λ l. is_some (get_member (key_text l) (members_view es))) ks) (stands_once (key_text k) es sorted)
     ∙ ap (λ rest. (count_by (bytes_eq (key_text k)) (form.keys_of (members_view es)) == 1) && rest) (each_once ks es sorted)
 
-any_of : (name : List ℕ) (keys : List Key) → list_any (λ k. bytes_eq name (key_text k)) keys ≡ list_any (bytes_eq name) (map key_text keys)
-any_of name [] = refl
-any_of name (k ∷ ks) = ap (λ rest. bytes_eq name (key_text k) || rest) (any_of name ks)
+never : (b : Bool) → (b && false) ≡ false
+never true = refl
+never false = refl
 
--- each key of the map is asked for
-each_asked : (keys : List Key) (es : List (String Global × Value))
-    → list_all (λ name. list_any (λ k. bytes_eq (string_bytes name) (key_text k)) keys) (keys_of es)
-    ≡ list_all (λ name. list_any (bytes_eq name) (map key_text keys)) (form.keys_of (members_view es))
-each_asked keys [] = refl
-each_asked keys (e ∷ es) =
-    ap (λ b. b && list_all (λ name. list_any (λ k. bytes_eq (string_bytes name) (key_text k)) keys) (keys_of es)) (any_of (string_bytes e.0) keys)
-    ∙ ap (λ rest. list_any (bytes_eq (string_bytes e.0)) (map key_text keys) && rest) (each_asked keys es)
+-- as many members as keys
+abbrev counted : List (List ℕ) → Members → Bool
+counted keys ms = length (form.keys_of ms) == length keys
 
--- both tests over the map of an object
-pub has_keys-entries : (d : Data) (keys : List Key) (es : List (String Global × Value)) (asked each : Bool) → Some (members_view es) ≡ as_object d
-    → IsStrictlySortedBy string_cmp (keys_of es)
-    → asked ≡ list_all (λ name. list_any (λ k. bytes_eq (string_bytes name) (key_text k)) keys) (keys_of es)
-    → each ≡ list_all (λ k. is_some (get (key_text k) d)) keys → (asked && each) ≡ form.has_keys (map key_text keys) d
-has_keys-entries null keys es asked each is sorted asks has = absurd (cc)
-has_keys-entries (boolean b) keys es asked each is sorted asks has = absurd (cc)
-has_keys-entries (number n) keys es asked each is sorted asks has = absurd (cc)
-has_keys-entries (string s) keys es asked each is sorted asks has = absurd (cc)
-has_keys-entries (array ds) keys es asked each is sorted asks has = absurd (cc)
-has_keys-entries (object ms) keys es asked each is sorted asks has =
+entries_length : (es : List (String Global × Value)) → length es ≡ length (form.keys_of (members_view es))
+entries_length [] = refl
+entries_length (e ∷ es) = ap suc (entries_length es)
+
+-- for distinct keys that is the test of the keys
+by_count : (keys : List (List ℕ)) (ms : Members) → are_distinct keys ≡ true → (counted keys ms && list_all (λ key. count_by (bytes_eq key) (form.keys_of ms) == 1) keys) ≡ form.has_keys keys (object ms)
+by_count keys ms distinct = by_tests (list_all (λ key. count_by (bytes_eq key) (form.keys_of ms) == 1) keys) (are_asked keys ms) (counted keys ms) refl refl refl
+  where
+    by_tests : (once asked many : Bool) → list_all (λ key. count_by (bytes_eq key) (form.keys_of ms) == 1) keys ≡ once → are_asked keys ms ≡ asked → counted keys ms ≡ many
+        → (many && once) ≡ (asked && once)
+    by_tests false asked many o a m = never many ∙ sym (never asked)
+    by_tests true true true o a m = refl
+    by_tests true false false o a m = refl
+    by_tests true true false o a m =
+        let same : length (form.keys_of ms) ≡ length keys = (let all = held keys ms distinct a o in members-as_many keys all.values ms all.are) in
+        let t : counted keys ms ≡ true = eq-eqb (length (form.keys_of ms)) (length keys) same in absurd (cc)
+    by_tests true false true o a m =
+        let t : are_asked keys ms ≡ true = asked_by_count keys ms distinct ((Decides-eqb (length (form.keys_of ms)) (length keys)).0 m) o in absurd (cc)
+
+-- the same test over the map of an object
+pub has_keys-entries : (version : ℕ) (f : Form) (d : Data) (es : List (String Global × Value)) (many each : Bool) → Some (members_view es) ≡ as_object d
+    → IsStrictlySortedBy string_cmp (keys_of es) → many ≡ (length es == length (table.keys_of version f))
+    → each ≡ list_all (λ k. is_some (get (key_text k) d)) (table.keys_of version f) → (many && each) ≡ form.has_keys (texts_of version f) d
+has_keys-entries version f null es many each is sorted counts has = absurd (cc)
+has_keys-entries version f (boolean b) es many each is sorted counts has = absurd (cc)
+has_keys-entries version f (number n) es many each is sorted counts has = absurd (cc)
+has_keys-entries version f (string s) es many each is sorted counts has = absurd (cc)
+has_keys-entries version f (array ds) es many each is sorted counts has = absurd (cc)
+has_keys-entries version f (object ms) es many each is sorted counts has =
+    let keys = table.keys_of version f in
+    let texts = texts_of version f in
     let same : ms ≡ members_view es = cc in
     let there = has ∙ ap (λ m. list_all (λ k. is_some (get_member (key_text k) m)) keys) same ∙ each_once keys es sorted in
-    ap (λ b. b && each) (asks ∙ each_asked keys es)
-    ∙ ap (λ b. list_all (λ name. list_any (bytes_eq name) (map key_text keys)) (form.keys_of (members_view es)) && b) there
-    ∙ ap (λ m. form.has_keys (map key_text keys) (object m)) (sym same)
+    let lengths : (length es == length keys) ≡ counted texts (members_view es) =
+    ap (λ n. n == length keys) (entries_length es) ∙ ap (λ n. length (form.keys_of (members_view es)) == n) (sym (length-map keys key_text)) in
+    ap (λ b. b && each) (counts ∙ lengths)
+    ∙ ap (λ b. counted texts (members_view es) && b) there
+    ∙ by_count texts (members_view es) (texts_distinct version f)
+    ∙ ap (λ m. form.has_keys texts (object m)) (sym same)

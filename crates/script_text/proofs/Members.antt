@@ -1,5 +1,5 @@
 -- Objects with exactly the keys of a list: how the test of the keys, and the members in any order, go together.
-use Rattle.std.proofs.Common.{◌≡◌, ℕ, ◌+◌, ◌==◌, ◌&&◌, ◌||◌, List, [], ◌∷◌, cond, Bool, true, false, not, Option, Some, None, is_some, refl, ap, sym, subst, ◌∙◌, arith, eq-eqb, zero-add}
+use Rattle.std.proofs.Common.{◌≡◌, ℕ, suc, ◌+◌, ◌==◌, ◌&&◌, ◌||◌, List, [], ◌∷◌, length, cond, Bool, true, false, not, Option, Some, None, is_some, refl, ap, sym, subst, ◌∙◌, arith, eq-eqb, zero-add}
 use Rattle.std.specs.Prelude.{⊤, bytes_eq, count_by}
 use Rattle.std.specs.List.{list_all, list_any}
 use Rattle.std.specs.declared.cmp.Ordering.{Ordering}
@@ -174,7 +174,7 @@ or_rest : (a b : Bool) → a ≡ false → (a || b) ≡ true → b ≡ true
 or_rest true b e f = absurd (cc)
 or_rest false b e f = f
 
-abbrev are_asked : List (List ℕ) → Members → Bool
+abbrev pub are_asked : List (List ℕ) → Members → Bool
 are_asked keys ms = list_all (λ key. list_any (bytes_eq key) keys) (keys_of ms)
 
 asked-wider : (key : List ℕ) (keys : List (List ℕ)) (ms : Members) → are_asked keys ms ≡ true → are_asked (key ∷ keys) ms ≡ true
@@ -304,6 +304,38 @@ held (key ∷ keys) ms distinct all ones =
       are = (found.before, found.after, found.is, more.are);
       under = (found.found, subst Under (sym found.is) more_under);
     }
+
+-- ---- as many members as keys
+
+length-joined : (before after : Members) (key : List ℕ) (d : Data) → length (keys_of (joined before (member key d after))) ≡ suc (length (keys_of (joined before after)))
+length-joined no_members after key d = refl
+length-joined (member k e ms) after key d = ap suc (length-joined ms after key d)
+
+pub members-as_many : (keys : List (List ℕ)) (ds : List Data) (ms : Members) → AreMembers keys ds ms → length (keys_of ms) ≡ length keys
+members-as_many [] [] ms are = ap (λ m. length (keys_of m)) are
+members-as_many [] (d ∷ ds) ms are = absurd are
+members-as_many (key ∷ keys) [] ms are = absurd are
+members-as_many (key ∷ keys) (d ∷ ds) ms are =
+    ap (λ m. length (keys_of m)) are.2 ∙ length-joined are.0 are.1 key d ∙ ap suc (members-as_many keys ds (joined are.0 are.1) are.3)
+
+-- where each of as many distinct keys stands once, no other does
+pub asked_by_count : (keys : List (List ℕ)) (ms : Members) → are_distinct keys ≡ true → length (keys_of ms) ≡ length keys
+    → list_all (λ key. count_of key ms == 1) keys ≡ true → are_asked keys ms ≡ true
+asked_by_count [] no_members distinct many ones = refl
+asked_by_count [] (member k d ms) distinct many ones = absurd (omega (arith, many))
+asked_by_count (key ∷ keys) ms distinct many ones =
+    let apart = and_parts (is_other key keys) (are_distinct keys) distinct in
+    let first = and_parts (count_of key ms == 1) (list_all (λ k. count_of k ms == 1) keys) ones in
+    let found = find_key key ms (some_by_count key ms ((Decides-eqb (count_of key ms) 1).0 first.0)) in
+    let rest = joined found.before found.after in
+    let fewer : length (keys_of ms) ≡ suc (length (keys_of rest)) =
+    ap (λ m. length (keys_of m)) found.is ∙ length-joined found.before found.after key found.value in
+    let Once : Members → Type 0 = λ m. list_all (λ k. count_of k m == 1) keys ≡ true in
+    let others = sym (once-same keys found.before found.after key found.value apart.0) ∙ subst Once found.is first.1 in
+    let asked = asked-wider key keys rest (asked_by_count keys rest apart.1 (omega (arith, fewer, many)) others) in
+    let P : List ℕ → Bool = λ k. list_any (bytes_eq k) (key ∷ keys) in
+    ap (λ m. list_all P (keys_of m)) found.is
+    ∙ keep-more P found.before found.after key found.value (ap (λ b. b || list_any (bytes_eq key) keys) (eq_same key)) asked
 
 -- ---- objects
 

@@ -1,10 +1,8 @@
 //! The table of the forms of lines: the keys of each form, in their order, the versions that have it, and what must stand
 //! under each key. What is read of a line, the cause of a bad one and the canonical text go by it. The keys of goals stand in
 //! `goals`.
-ghost use Rattle.std.specs.Prelude.{◌≡◌, bytes_eq, is_some, map, string_bytes, string_cmp};
-ghost use Rattle.std.specs.BTreeMap.{IsOrdered};
+ghost use Rattle.std.specs.Prelude.{◌≡◌, bytes_eq, is_some};
 ghost use Rattle.std.specs.List.{find, list_all, list_any};
-ghost use Rattle.std.specs.Map.{keys_of};
 ghost use Rattle.serde_json.specs.Find.{get};
 ghost use Rattle.serde_json.specs.View.{view};
 ghost use Rattle.class_config.specs.Forms.{has_keys};
@@ -16,7 +14,7 @@ use crate::parts::Rules;
 use crate::versions::{FIRST_WITH_MASKS, FIRST_WITH_MOVES, NEWEST_VERSION};
 use nav_types::Size;
 use nav_types::limits::{MAX_CALLERS, MAX_SIDE};
-use serde_json::{Map, Value};
+use serde_json::Value;
 
 /// The form of a line.
 #[derive(Clone, Copy)]
@@ -191,15 +189,17 @@ fn first_form(forms: &[Form], version: u8, value: &Value) -> Option<Form>
 pub(crate) fn has_form(version: u8, value: &Value, form: Form) -> bool
     ensures { result ≡ table.has_form version (view value.now) form }
 {
-    form.stands_in(version) && has_exactly(value, form.keys(version))
+    form.stands_in(version) && has_keys_of(form, version, value)
 }
 
-/// Whether the value is an object with exactly these keys.
-fn has_exactly(value: &Value, keys: &[Key]) -> bool
-    ensures { result ≡ has_keys (map table.key_text keys.now) (view value.now) }
+/// Whether the value is an object with exactly the keys of the form.
+fn has_keys_of(form: Form, version: u8, value: &Value) -> bool
+    ensures { result ≡ has_keys (table.texts_of version form) (view value.now) }
 {
+    let keys = form.keys(version);
     match value.as_object() {
-        Some(members) => has_no_other(members, keys) && has_each(value, keys),
+        // No two keys of a form are the same: where each of them is among as many members, there is no other.
+        Some(members) => members.len() == keys.len() && has_each(value, keys),
         None => false,
     }
 }
@@ -209,16 +209,6 @@ fn has_each(value: &Value, keys: &[Key]) -> bool
     ensures { result ≡ list_all (λ key. is_some (get (table.key_text key) (view value.now))) keys.now }
 {
     keys.iter().all(|key| value.get(key.as_str()).is_some())
-}
-
-/// Whether each key of an object is one of these.
-fn has_no_other(members: &Map<String, Value>, keys: &[Key]) -> bool
-    ensures others { result
-        ≡ list_all (λ member. list_any (λ key. bytes_eq (string_bytes member) (table.key_text key)) keys.now)
-        (keys_of members.now.entries) }
-    ensures ordered { IsOrdered string_cmp members.now }
-{
-    members.keys().all(|member| is_among(member, keys))
 }
 
 /// Whether the key is one of these.
