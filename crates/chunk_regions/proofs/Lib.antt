@@ -7,4 +7,7 @@ pub mod RowLemmas
 pub mod ChunkLemmas
 pub mod CopyLemmas
 pub mod RelabelLemmas
-pub mod GrownLemmas
+pub mod BoundLemmas
+pub mod LinkLemmas
+pub mod AmongLemmas
+pub mod RootLemmas

@@ -1,12 +1,13 @@
-//! The labelling of a chunk: its spans in row order, and regions renumbered where two of them meet.
-ghost use Rattle.std.specs.Prelude.{ℕ, Bool, ◌≡◌, ◌+◌, ◌-◌, ◌*◌, ◌/◌, ◌<◌, ◌≤◌, [], ◌∷◌, ◌++◌, length, map, remove, take, OnOk, IfOk, Some, slice_get, slice_index};
+//! The labelling of a chunk: its spans in row order, regions that are linked where two of them meet, and their numbers, which
+//! are given once at the end.
+ghost use Rattle.std.specs.Prelude.{ℕ, Bool, ◌≡◌, ◌+◌, ◌-◌, ◌*◌, ◌/◌, ◌<◌, ◌≤◌, [], ◌∷◌, ◌++◌, length, map, take, OnOk, IfOk, Some, slice_get, slice_index};
 ghost use Rattle.nav_types.specs.declared.cells.Cell.{Cell};
 ghost use Rattle.nav_types.specs.declared.cells.Chunk.{Chunk};
 ghost use Rattle.nav_types.specs.declared.limits.TheConstants.{CHUNK_SIDE, CHUNK_CELLS, MAX_CHUNKS_ALONG};
 ghost use Rattle.nav_types.specs.Cells.{cell_at};
 ghost use Rattle.chunk_regions.specs.declared.spans.Span.{Span};
 ghost use Rattle.chunk_regions.specs.inner.Spans.{Runs, IsPlace, IsCut, region_of};
-ghost use Rattle.chunk_regions.specs.inner.Joining.{Overlap, Reach, MeetsTo, AreUnited, KeepsOne, AreBounded, AreGrown, KeepsGroups, IsNumbered, number_after};
+ghost use Rattle.chunk_regions.specs.inner.Joining.{Overlap, Reach, LeadDown, IsRoot, IsRootOf, AreJoined, KeepsShared, IsNewest, KeepsJoining, AreUnited, AreBounded, AreGrown, AreNumbers, KeepsGroups, IsNumbered, number_in};
 
 use crate::spans::{RowSpans, Span};
 use nav_types::limits::CHUNK_SIDE;
@@ -31,119 +32,82 @@ pub struct Numbered {
 }
 
 /// The regions of the spans so far, with room for those of the others, and of each region in order the first cell and the
-/// place of the first span.
+/// region that it is linked to: an earlier one that it meets, or itself.
 #[derive(Drop)]
 struct Growing {
     regions: Vec<u16>,
     firsts: Vec<Cell>,
-    places: Vec<u16>,
+    links: Vec<u16>,
 }
 
-/// The number of a region once regions `a` and `b` are one, which keeps the lower number `a`.
+/// The region that the links lead to from one.
 #[inline(always)]
-fn renumbered(region: u16, a: u16, b: u16) -> u16
-    ensures { result ≡ number_after a b region }
+fn root(links: &[u16], region: u16) -> u16
+    requires some { 1 ≤ region }
+    requires known { region ≤ length links.now }
+    requires down { LeadDown links.now }
+    ensures { IsRootOf links.now region result }
 {
-    if region == b {
-        a
-    } else if b < region {
-        region - 1
-    } else {
-        region
+    let mut at = region;
+    let mut next = links[at as usize - 1];
+    while next < at {
+        at = next;
+        next = links[at as usize - 1];
     }
+    at
 }
 
-/// Gives spans the regions that they have once regions `a` and `b` are one.
-fn renumber(regions: &mut [u16], a: u16, b: u16)
-    ensures { regions.new ≡ map (number_after a b) regions.old }
-{
-    for region in regions.iter_mut() {
-        *region = renumbered(*region, a, b);
-    }
-}
-
-/// Does so with the spans from one place on to before another, where those before have lower numbers.
+/// Links a root and the root of another region, the later to the earlier one, and gives the earlier.
 #[inline(always)]
-fn renumber_part(regions: &mut [u16], from: usize, end: usize, a: u16, b: u16)
-    requires order { from ≤ end }
-    requires within { end ≤ length regions.old }
-    requires lower { (k : ℕ) → k < from → slice_index regions.old k < b }
-    ensures stays { length regions.new ≡ length regions.old }
-    ensures part { take end regions.new ≡ map (number_after a b) (take end regions.old) }
+fn join(links: &mut [u16], region: u16, other: u16) -> u16
+    requires root { IsRoot links.old region }
+    requires some { 1 ≤ other }
+    requires known { other ≤ length links.old }
+    requires down { LeadDown links.old }
+    ensures { AreJoined links.old region other links.new result }
 {
-    renumber(&mut regions[from..end], a, b);
+    let other = root(links, other);
+    let low = region.min(other);
+    links[region.max(other) as usize - 1] = low;
+    low
 }
 
-/// Makes one region of two, whose first cell is that of the one with the lower number `a`, where the spans before `end` are
-/// numbered.
-#[inline(never)]
-fn unite(all: &mut Growing, a: u16, b: u16, end: usize)
-    requires order { a < b }
-    requires within { b ≤ length all.old.firsts.items }
-    requires end { end ≤ length all.old.regions.items }
-    requires grown { AreGrown (take end all.old.regions.items) all.old.firsts.items all.old.places.items }
-    ensures length { length all.new.regions.items ≡ length all.old.regions.items }
-    ensures regions { take end all.new.regions.items ≡ map (number_after a b) (take end all.old.regions.items) }
-    ensures firsts { all.new.firsts.items ≡ remove all.old.firsts.items (b - 1) }
-    ensures places { all.new.places.items ≡ remove all.old.places.items (b - 1) }
-{
-    let place = b as usize - 1;
-    // the spans before its first one are of regions with lower numbers, which stay
-    let from = all.places[place] as usize;
-    renumber_part(&mut all.regions, from, end, a, b);
-    all.firsts.remove(place);
-    all.places.remove(place);
-}
-
-/// Makes one region of those of two spans that overlap, of which the north one is the newest.
+/// Links the region of the newest span with those of the spans from a place on that it overlaps in the row before, and
+/// gives the earliest.
 #[inline(always)]
-fn join(all: &mut Growing, south: usize, north: usize)
-    requires south { south < north }
-    requires north { north < length all.old.regions.items }
-    requires grown { AreGrown (take (north + 1) all.old.regions.items) all.old.firsts.items all.old.places.items }
-    ensures length { length all.new.regions.items ≡ length all.old.regions.items }
-    ensures grown { AreGrown (take (north + 1) all.new.regions.items) all.new.firsts.items all.new.places.items }
-    ensures kept { KeepsOne (take (north + 1) all.old.regions.items) (take (north + 1) all.new.regions.items) }
-    ensures met { slice_index (take (north + 1) all.new.regions.items) south
-        ≡ slice_index (take (north + 1) all.new.regions.items) north }
-    ensures groups { (chunk : Chunk) (runs : Runs) (s n : Place) → Overlap runs s n → s.at ≡ south → n.at ≡ north
-        → KeepsGroups chunk runs (take (north + 1) all.old.regions.items) all.old.firsts.items
-        (take (north + 1) all.new.regions.items) all.new.firsts.items }
-{
-    let a = all.regions[south];
-    let b = all.regions[north];
-    if a < b {
-        unite(all, a, b, north + 1);
-    } else if b < a {
-        unite(all, b, a, north + 1);
-    }
-}
-
-/// Joins the newest span with those from a place on that it overlaps in the row before.
-#[inline(always)]
-fn join_rest(rows: &RowSpans, all: &mut Growing, place: Place, span: Span, from: usize, end: usize)
+fn join_rest(
+    rows: &RowSpans,
+    all: &mut Growing,
+    place: Place,
+    region: u16,
+    from: usize,
+    end: usize,
+) -> u16
     requires place { IsPlace rows.now place }
-    requires span { slice_get rows.now.spans place.at ≡ Some span }
     requires from { slice_index rows.now.starts (place.row - 1) ≤ from }
     requires end { end ≡ slice_index rows.now.starts place.row }
     requires room { place.at < length all.old.regions.items }
-    requires grown { AreGrown (take (place.at + 1) all.old.regions.items) all.old.firsts.items all.old.places.items }
-    requires reach { Reach rows.now span.first from end }
-    requires met { MeetsTo rows.now (take (place.at + 1) all.old.regions.items) place from }
-    ensures length { length all.new.regions.items ≡ length all.old.regions.items }
-    ensures grown { AreGrown (take (place.at + 1) all.new.regions.items) all.new.firsts.items all.new.places.items }
-    ensures kept { KeepsOne (take (place.at + 1) all.old.regions.items) (take (place.at + 1) all.new.regions.items) }
-    ensures met { MeetsTo rows.now (take (place.at + 1) all.new.regions.items) place end }
-    ensures groups { (chunk : Chunk) → KeepsGroups chunk rows.now (take (place.at + 1) all.old.regions.items)
-        all.old.firsts.items (take (place.at + 1) all.new.regions.items) all.new.firsts.items }
+    requires grown { AreGrown (take place.at all.old.regions.items) all.old.firsts.items all.old.links.items }
+    requires reach { (span : Span) → slice_get rows.now.spans place.at ≡ Some span → Reach rows.now span.first from end }
+    requires newest { IsNewest rows.now (take place.at all.old.regions.items) all.old.links.items place region from }
+    ensures regions { all.new.regions.items ≡ all.old.regions.items }
+    ensures firsts { all.new.firsts.items ≡ all.old.firsts.items }
+    ensures grown { AreGrown (take place.at all.old.regions.items) all.old.firsts.items all.new.links.items }
+    ensures kept { KeepsShared all.old.links.items all.new.links.items }
+    ensures newest { IsNewest rows.now (take place.at all.old.regions.items) all.new.links.items place result end }
+    ensures groups { (chunk : Chunk) → KeepsJoining chunk rows.now (take place.at all.old.regions.items)
+        all.old.firsts.items place all.old.links.items region all.new.links.items result }
 {
+    let last = rows.span(place.at).last;
+    let mut region = region;
     for south in from..end {
         // the spans of a row rise, so none from here on overlaps
-        if span.last < rows.span(south).first {
-            return;
+        if last < rows.span(south).first {
+            return region;
         }
-        join(all, south, place.at);
+        region = join(&mut all.links, region, all.regions[south]);
     }
+    region
 }
 
 /// Gives the newest span a region of its own: its first cell is then the region's first.
@@ -153,21 +117,22 @@ fn begin(all: &mut Growing, chunk: Chunk, place: Place, span: Span) -> Result<()
     requires row { chunk.cj < MAX_CHUNKS_ALONG }
     requires here { place.row < CHUNK_SIDE }
     requires few { length all.old.firsts.items < CHUNK_CELLS / 2 }
-    requires at { place.at < CHUNK_CELLS / 2 }
     requires room { place.at < length all.old.regions.items }
     ensures length { length all.new.regions.items ≡ length all.old.regions.items }
     ensures regions { OnOk result (take (place.at + 1) all.new.regions.items
         ≡ take place.at all.old.regions.items ++ (length all.old.firsts.items + 1) ∷ []) }
     ensures firsts { OnOk result (all.new.firsts.items
         ≡ all.old.firsts.items ++ cell_at (CHUNK_SIDE * chunk.ci + span.first) (CHUNK_SIDE * chunk.cj + place.row) ∷ []) }
-    ensures places { OnOk result (all.new.places.items ≡ all.old.places.items ++ place.at ∷ []) }
+    ensures links { OnOk result (all.new.links.items
+        ≡ all.old.links.items ++ (length all.old.firsts.items + 1) ∷ []) }
 {
     all.firsts.push(Cell::new(
         chunk.ci * CHUNK_SIDE + u16::from(span.first),
         chunk.cj * CHUNK_SIDE + place.row,
     ))?;
-    all.places.push(place.at as u16)?;
-    all.regions[place.at] = all.firsts.len() as u16;
+    let region = all.firsts.len() as u16;
+    all.links.push(region)?;
+    all.regions[place.at] = region;
     Ok(())
 }
 
@@ -190,23 +155,24 @@ fn number_span(
     requires reach { (span : Span) → slice_get rows.now.spans place.at ≡ Some span → Reach rows.now span.first south end }
     requires passed { (s : Place) → Overlap rows.now s place → south ≤ s.at }
     requires room { place.at < length all.old.regions.items }
-    requires grown { AreGrown (take place.at all.old.regions.items) all.old.firsts.items all.old.places.items }
-    requires united { AreUnited rows.now (take place.at all.old.regions.items) place.at }
+    requires grown { AreGrown (take place.at all.old.regions.items) all.old.firsts.items all.old.links.items }
+    requires united { AreUnited rows.now (take place.at all.old.regions.items) all.old.links.items place.at }
     ensures length { length all.new.regions.items ≡ length all.old.regions.items }
     ensures grown { OnOk result (AreGrown (take (place.at + 1) all.new.regions.items) all.new.firsts.items
-        all.new.places.items) }
-    ensures united { OnOk result (AreUnited rows.now (take (place.at + 1) all.new.regions.items) (place.at + 1)) }
+        all.new.links.items) }
+    ensures united { OnOk result (AreUnited rows.now (take (place.at + 1) all.new.regions.items) all.new.links.items
+        (place.at + 1)) }
     ensures groups { OnOk result (KeepsGroups chunk rows.now (take place.at all.old.regions.items) all.old.firsts.items
-        (take (place.at + 1) all.new.regions.items) all.new.firsts.items) }
+        all.old.links.items (take (place.at + 1) all.new.regions.items) all.new.firsts.items all.new.links.items) }
 {
     let span = rows.span(place.at);
     if south == end || span.last < rows.span(south).first {
         begin(all, chunk, place, span)?;
         return Ok(());
     }
-    let region = all.regions[south];
+    let region = root(&all.links, all.regions[south]);
+    let region = join_rest(rows, all, place, region, south + 1, end);
     all.regions[place.at] = region;
-    join_rest(rows, all, place, span, south + 1, end);
     Ok(())
 }
 
@@ -246,15 +212,16 @@ fn number_row(
     requires south { south ≡ slice_index rows.now.starts (row - 1) }
     requires start { start ≡ slice_index rows.now.starts row }
     requires room { length all.old.regions.items ≡ length rows.now.spans }
-    requires grown { AreGrown (take start all.old.regions.items) all.old.firsts.items all.old.places.items }
-    requires united { AreUnited rows.now (take start all.old.regions.items) start }
+    requires grown { AreGrown (take start all.old.regions.items) all.old.firsts.items all.old.links.items }
+    requires united { AreUnited rows.now (take start all.old.regions.items) all.old.links.items start }
     ensures end { IfOk result (λ end. end ≡ slice_index rows.now.starts (row + 1)) }
     ensures length { length all.new.regions.items ≡ length all.old.regions.items }
     ensures grown { IfOk result (λ end. AreGrown (take end all.new.regions.items) all.new.firsts.items
-        all.new.places.items) }
-    ensures united { IfOk result (λ end. AreUnited rows.now (take end all.new.regions.items) end) }
+        all.new.links.items) }
+    ensures united { IfOk result (λ end. AreUnited rows.now (take end all.new.regions.items) all.new.links.items end) }
     ensures groups { IfOk result (λ end. KeepsGroups chunk rows.now (take start all.old.regions.items)
-        all.old.firsts.items (take end all.new.regions.items) all.new.firsts.items) }
+        all.old.firsts.items all.old.links.items (take end all.new.regions.items) all.new.firsts.items
+        all.new.links.items) }
 {
     let end = rows.start(row + 1) as usize;
     let mut reached = south;
@@ -263,6 +230,50 @@ fn number_row(
         number_span(rows, all, chunk, Place { row, at }, reached, start)?;
     }
     Ok(end)
+}
+
+/// How many regions are linked to none before them.
+fn count_roots(links: &[u16]) -> usize {
+    let mut count = 0usize;
+    for place in 0..links.len() {
+        if links[place] as usize > place {
+            count = count.saturating_add(1);
+        }
+    }
+    count
+}
+
+/// Gives each region its number in place of its link, and lists the first cells of the numbered ones: the regions that are
+/// linked to none before them have numbers in their order, and the others have that of the region that they link to.
+fn number_regions(alloc: Global, firsts: &[Cell], links: &mut [u16]) -> Result<Vec<Cell>, NoMemory>
+    requires each { length links.old ≡ length firsts.now }
+    requires few { length firsts.now ≤ CHUNK_CELLS / 2 }
+    requires down { LeadDown links.old }
+    ensures length { length links.new ≡ length links.old }
+    ensures numbers { IfOk result (λ roots. AreNumbers firsts.now links.old links.new roots.items (length links.old)) }
+{
+    let mut roots = Vec::with_capacity(alloc, count_roots(links))?;
+    for place in 0..links.len() {
+        let link = links[place] as usize;
+        if link > place {
+            roots.push(firsts[place])?;
+            links[place] = roots.len() as u16;
+        } else {
+            links[place] = links[link - 1];
+        }
+    }
+    Ok(roots)
+}
+
+/// Gives spans the numbers of their regions.
+fn number_spans(regions: &mut [u16], numbers: &[u16])
+    requires known { (k : ℕ) → k < length regions.old
+        → (1 ≤ slice_index regions.old k) × (slice_index regions.old k ≤ length numbers.now) }
+    ensures { regions.new ≡ map (number_in numbers.now) regions.old }
+{
+    for region in regions.iter_mut() {
+        *region = numbers[*region as usize - 1];
+    }
 }
 
 /// Numbers the regions of all spans.
@@ -278,7 +289,7 @@ pub fn number_all(alloc: Global, chunk: Chunk, rows: &RowSpans) -> Result<Number
     let mut all = Growing {
         regions: vec![in alloc; 0; rows.len()]?,
         firsts: Vec::with_capacity(alloc, FEW_REGIONS)?,
-        places: Vec::with_capacity(alloc, FEW_REGIONS)?,
+        links: Vec::with_capacity(alloc, FEW_REGIONS)?,
     };
     // before the first row there is none, and `south` is where its own spans begin
     let mut south = 0;
@@ -288,8 +299,8 @@ pub fn number_all(alloc: Global, chunk: Chunk, rows: &RowSpans) -> Result<Number
         south = start;
         start = end;
     }
-    // the first cells are kept in no more room than they fill
-    let firsts = Vec::from_slice(alloc, &all.firsts)?;
+    let firsts = number_regions(alloc, &all.firsts, &mut all.links)?;
+    number_spans(&mut all.regions, &all.links);
     Ok(Numbered {
         regions: all.regions,
         firsts,

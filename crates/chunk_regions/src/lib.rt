@@ -7,8 +7,8 @@
 //! ```
 //!
 //! [`label`] finds them in one pass, row by row: a span of passable cells gets the region of a span that it touches in the
-//! row before. Where it touches two regions, they become one at once, and the numbers above move down. [`Labels`] keeps the
-//! spans of each row, and finds the region of a cell among them. Which regions touch across chunks is `region_edges`, and
+//! row before. Where it touches two regions, the later is linked to the earlier (disjoint sets), and at the end each region
+//! gets its number once. [`Labels`] keeps the spans of each row, and finds the region of a cell among them. Which regions touch across chunks is `region_edges`, and
 //! what they join is `reach_sets`.
 #![tactic(auto)]
 

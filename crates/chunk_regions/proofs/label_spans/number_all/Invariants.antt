@@ -10,8 +10,8 @@ invariant-loop-row l = record {
   south : l.south ≡ slice_index l.rows.starts (l.row - 1);
   start : l.start ≡ slice_index l.rows.starts l.row;
   room : length l.all.regions.items ≡ length l.rows.spans;
-  grown : AreGrown (take l.start l.all.regions.items) l.all.firsts.items l.all.places.items;
-  united : AreUnited l.rows (take l.start l.all.regions.items) l.start;
+  grown : AreGrown (take l.start l.all.regions.items) l.all.firsts.items l.all.links.items;
+  united : AreUnited l.rows (take l.start l.all.regions.items) l.all.links.items l.start;
   groups : (passes : Cell → Bool) → IsCut passes l.chunk l.rows
-      → AreGroups passes l.chunk l.rows (take l.start l.all.regions.items) l.all.firsts.items;
+      → AreGroups passes l.chunk l.rows (take l.start l.all.regions.items) l.all.firsts.items l.all.links.items;
 }

@@ -99,7 +99,7 @@ returns-clause-united c =
     let rising = c.start-end.ensures.are.rising c.args.row c.requires.here in
     let past : c.loop-at.at ≡ c.start-end.result =
     omega (arith, rising, c.requires.start, c.start-end.ensures.value, c.loop-at-test.false, c.loop-at.auto.at-end) in
-    subst (λ k. AreUnited runs (take k c.loop-at.all.regions.items) k) past c.loop-at.invariant.united
+    subst (λ k. AreUnited runs (take k c.loop-at.all.regions.items) c.loop-at.all.links.items k) past c.loop-at.invariant.united
 
 pub returns-clause-grown : goal.returns-clause-grown
 returns-clause-grown c =
@@ -107,7 +107,7 @@ returns-clause-grown c =
     let past : c.loop-at.at ≡ c.start-end.result =
     omega (arith, rising, c.requires.start, c.start-end.ensures.value, c.loop-at-test.false, c.loop-at.auto.at-end) in
     let all = c.loop-at.all in
-    subst (λ k. AreGrown (take k all.regions.items) all.firsts.items all.places.items) past c.loop-at.invariant.grown
+    subst (λ k. AreGrown (take k all.regions.items) all.firsts.items all.links.items) past c.loop-at.invariant.grown
 
 pub returns-clause-groups : goal.returns-clause-groups
 returns-clause-groups c =
@@ -116,5 +116,5 @@ returns-clause-groups c =
     omega (arith, rising, c.requires.start, c.start-end.ensures.value, c.loop-at-test.false, c.loop-at.auto.at-end) in
     let old = c.args.all.now in
     let all = c.loop-at.all in
-    subst (λ k. KeepsGroups c.args.chunk c.args.rows.now (take c.args.start old.regions.items) old.firsts.items (take k all.regions.items) all.firsts.items)
+    subst (λ k. KeepsGroups c.args.chunk c.args.rows.now (take c.args.start old.regions.items) old.firsts.items old.links.items (take k all.regions.items) all.firsts.items all.links.items)
     past c.loop-at.invariant.groups
