@@ -583,3 +583,16 @@ fn a_large_map_gets_a_table_by_parts(rt: HostRuntime) {
     let tables = tables_by_turn(rt.alloc());
     assert!(rt; tables == Some([0, 1, 2, 2]), "{tables:?}");
 }
+
+/// A class gets eight tables also where a side is the longest that a map may have.
+#[test]
+fn a_long_map_gets_all_tables(rt: HostRuntime) {
+    let Some(version) = version_of(rt.alloc(), [2_048, 4], (1, "0"), &[]) else {
+        panic!(rt; "no map");
+    };
+    let Some(next) = searched(&version, rt.alloc(), (0, 1_000_000), "") else {
+        panic!(rt; "no version");
+    };
+    let tables = tables_of(&next, 0);
+    assert!(rt; tables == 8, "{tables}");
+}

@@ -28,9 +28,6 @@ const MOST_BYTES: usize = 68_000_000;
 /// The bytes of a cell in the tables of a class.
 const CELL_BYTES: usize = 2 * MAX_TABLES;
 
-/// The longest side of a map on which a class gets all tables; on larger ones it gets half as many.
-const LONG_SIDE: u16 = 1_024;
-
 /// For how many cells of the map one jump state has to be opened before a table is begun.
 const CELLS_A_STATE: u64 = 8;
 
@@ -76,7 +73,7 @@ impl Guide {
 
     /// Whether the searches have paid for one table more on a map of this size, and the class may have it.
     fn has_earned(&self, size: Size) -> bool {
-        self.account.opened() >= price_of(size) && self.made() < most_tables(size)
+        self.account.opened() >= price_of(size) && self.made() < MAX_TABLES
     }
 
     /// The same tables once more, or a list with none of them yet.
@@ -139,15 +136,6 @@ fn price_of(size: Size) -> u64 {
 /// For how many classes there is room for tables on a map of this size.
 fn most_guided(size: Size) -> usize {
     MOST_BYTES / (CELL_BYTES * cells_of(size))
-}
-
-/// How many tables a class gets at most on a map of this size.
-fn most_tables(size: Size) -> usize {
-    if size.w > LONG_SIDE || size.h > LONG_SIDE {
-        MAX_TABLES / 2
-    } else {
-        MAX_TABLES
-    }
 }
 
 /// What the searches of all classes of a map go by, and a table on its way. Contracts see the tables of each class, if it has
