@@ -47,6 +47,14 @@ class Match:
         with open(f"/proc/{self.child.pid}/status", encoding="ascii") as it:
             return next(int(line.split()[1]) / 1024 for line in it if line.startswith("VmHWM"))
 
+    def most_in(self, turns):
+        """The most memory that the program had at once while it played turns with these posts, in MB."""
+        with open(f"/proc/{self.child.pid}/clear_refs", "w", encoding="ascii") as it:
+            it.write("5")  # the most so far is forgotten
+        for posts in turns:
+            self.play(posts)
+        return self.memory()
+
     def close(self):
         self.child.stdin.close()
         self.child.stdout.close()
@@ -232,20 +240,17 @@ def memory(program):
 
 
 def tables(program):
-    print("tables: MB at the most where each fifth navcell is blocked: after the set-up, after a turn of 20 long paths of each")
-    print("  class, and when the classes have the tables of landmarks that they get")
-    for side, classes in ((512, 1), (512, 4), (512, 16), (1024, 1), (1024, 4), (2048, 1), (2048, 4)):
+    print("tables: MB at the most where each fifth navcell is blocked, in a turn of 20 long paths of each class that has room for")
+    print("  tables of landmarks: without tables, in the turns in which they are made, and in a later turn with all of them")
+    for side in (256, 512, 1024, 2048):
         (_, *base), paths = drawn("scattered", side, 20)
-        base = [it.replace(",1]", f",{2**classes - 1}]") for it in base]
-        posts = [it.replace('"c0"', f'"c{k}"') for k in range(classes) for it in paths]
-        match = opened(program, [map_line(side, ["0"] * classes), *base])
-        figures = [match.memory()]
-        for more in (1, 4 * classes):
-            for _ in range(more):
-                match.play(posts)
-            figures.append(match.memory())
-        told(f"{side} by {side}, {classes} class{'es' * (classes > 1)}", *figures, unit="10.1f")
-        match.close()
+        for classes in (1, 2, 8, 16):
+            guided = min(classes, 68_000_000 // (16 * (side + 2) ** 2))
+            posts = [it.replace('"c0"', f'"c{k}"') for k in range(guided) for it in paths]
+            match = opened(program, [map_line(side, ["0"] * classes), *(it.replace(",1]", f",{2**classes - 1}]") for it in base)])
+            figures = [match.most_in([posts]), match.most_in([posts] * 5 + [[]] * 24), match.most_in([posts])]
+            told(f"{side} by {side}, {classes} class{'es' * (classes > 1)}", *figures, unit="10.1f")
+            match.close()
 
 
 def course(program):
