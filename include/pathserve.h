@@ -8,7 +8,7 @@
  *     by text       pathserve_open       feed, finish          waiting, take, cause
  *                   limit_line
  *     by structs    pathserve_open_map   check, post_all, end_turn   replies, waypoints, journal
- *                   pathserve_open_grid  limit_posts
+ *                   pathserve_open_grid  limit_posts, keep_no_journal
  *     to go on      pathserve_open_script, script_cause, snapshot, forget   turn_digest, view_digest
  *     to look       pathserve_view_of    view_size, passable, region, area, row, nearest, reachable, standing_at, standing,
  *                                        find, field, clear, smooth
@@ -83,18 +83,19 @@ enum {
 
 typedef uint32_t pathserve_status;
 enum {
-    PATHSERVE_DONE = 0,       /* the call did what it was asked to */
-    PATHSERVE_BAD_LINE = 3,   /* a line of the script is not valid: the text ends with its number */
-    PATHSERVE_NO_MEMORY = 6,  /* an allocation failed. Nothing is lost, and the call can be made again */
-    PATHSERVE_TOO_LONG = 7,   /* a line has more than 8,388,608 bytes, or the script more than 4,294,967,296 */
-    PATHSERVE_CLOSED = 16,    /* the handle is closed */
-    PATHSERVE_OPEN = 17,      /* the handle is open already */
-    PATHSERVE_OTHER = 18,     /* a handle of another kind: by text for a call by structs, or the reverse; a match for a view */
-    PATHSERVE_ENDED = 19,     /* pathserve_finish has ended the script */
-    PATHSERVE_NO_MAP = 20,    /* the script's map line has not been fed yet */
-    PATHSERVE_BAD_VALUE = 21, /* an unknown kind, number or size, or an unused field that is not 0 */
-    PATHSERVE_SMALL = 22,     /* the buffer is too small: nothing was written, and the size that is needed was */
-    PATHSERVE_PAST_LIMIT = 23 /* more than a limit that was set: nothing was taken */
+    PATHSERVE_DONE = 0,        /* the call did what it was asked to */
+    PATHSERVE_BAD_LINE = 3,    /* a line of the script is not valid: the text ends with its number */
+    PATHSERVE_NO_MEMORY = 6,   /* an allocation failed. Nothing is lost, and the call can be made again */
+    PATHSERVE_TOO_LONG = 7,    /* a line has more than 8,388,608 bytes, or the script more than 4,294,967,296 */
+    PATHSERVE_CLOSED = 16,     /* the handle is closed */
+    PATHSERVE_OPEN = 17,       /* the handle is open already */
+    PATHSERVE_OTHER = 18,      /* a handle of another kind: by text for a call by structs, or the reverse; a match for a view */
+    PATHSERVE_ENDED = 19,      /* pathserve_finish has ended the script */
+    PATHSERVE_NO_MAP = 20,     /* the script's map line has not been fed yet */
+    PATHSERVE_BAD_VALUE = 21,  /* an unknown kind, number or size, or an unused field that is not 0 */
+    PATHSERVE_SMALL = 22,      /* the buffer is too small: nothing was written, and the size that is needed was */
+    PATHSERVE_PAST_LIMIT = 23, /* more than a limit that was set: nothing was taken */
+    PATHSERVE_NO_JOURNAL = 24  /* the match keeps no journal */
 };
 
 /* Any status but DONE leaves a handle as it was, except the two of a script (BAD_LINE, TOO_LONG) and where a call says
@@ -203,7 +204,8 @@ typedef struct pathserve_rect { uint16_t i0, j0, i1, j1, mask, zero; } pathserve
 
 /* Opens a closed handle: a match on this map, before its first turn. There are 1 to 16 classes with distinct names, numbered
  * by their places from 0; the rectangles lie inside the map. The match keeps its posts for its journal, some 150 bytes each,
- * until it is closed (docs/C.md, "Memory"); a match by text keeps none. DONE, OPEN, BAD_VALUE, NO_MEMORY. */
+ * until it is closed or pathserve_keep_no_journal is called (docs/C.md, "Memory"); a match by text keeps none.
+ * DONE, OPEN, BAD_VALUE, NO_MEMORY. */
 pathserve_status pathserve_open_map(pathserve_match *match, const pathserve_map *map, const pathserve_class *classes,
                                     size_t class_count, const pathserve_rect *base, size_t base_count);
 
@@ -463,8 +465,8 @@ size_t pathserve_waypoints(pathserve_match *match, uint64_t first, pathserve_cel
 /* Writes the match so far as a script in canonical form, from the posts that it keeps: the turns that have ended, and no
  * other. A match that is fed this script gets the same map and the same turns, as long as it is within the limits of a script
  * (4 GiB: some 40 million posts). `whole` gets its size in bytes. DONE: it is at the start of the buffer. SMALL: it does not
- * fit, and nothing was written to the buffer; so a first call with (NULL, 0) asks for the size. NO_MEMORY, CLOSED, OTHER:
- * neither was written. */
+ * fit, and nothing was written to the buffer; so a first call with (NULL, 0) asks for the size. NO_JOURNAL: the match keeps
+ * none (pathserve_keep_no_journal). NO_MEMORY, CLOSED, OTHER. With these neither was written. */
 pathserve_status pathserve_journal(pathserve_match *match, uint8_t *buffer, size_t length, size_t *whole);
 
 /* ======== views: questions between turns, by any thread ======== */
@@ -640,10 +642,15 @@ pathserve_status pathserve_script_cause(const uint8_t *script, size_t length, ui
  * written. */
 pathserve_status pathserve_snapshot(pathserve_view *view, uint8_t *buffer, size_t length, size_t *whole);
 
+/* Lets go of the journal of a match by structs and frees what it held: from then on posts are not kept once their turn has ended,
+ * so the match does not grow with its turns, and pathserve_journal answers NO_JOURNAL. All else is as if it kept one: numbers of
+ * turns, answers, views, snapshots and digests. pathserve_forget begins a journal again. DONE, CLOSED, OTHER. */
+pathserve_status pathserve_keep_no_journal(pathserve_match *match);
+
 /* Begins the journal of a match by structs anew, and frees what it held: in place of the turns that have ended it gets one turn
  * that adds the current obstructions, as the snapshot has. So the next turn is number 2. A match of which no turn has ended stays
  * as it is. All else stays: the obstructions, the posts of the turn, the replies of the last one and their digest.
- * DONE. NO_MEMORY: the journal is as it was. CLOSED, OTHER. */
+ * A match without a journal keeps one from then on. DONE. NO_MEMORY: the journal is as it was. CLOSED, OTHER. */
 pathserve_status pathserve_forget(pathserve_match *match);
 
 /* The digest of the turn that ended last, in a match by structs: the number by which docs/FORMAT.md, "The digest of a turn",

@@ -565,6 +565,9 @@ class Match {
     // The turns that have ended as a script.
     std::string journal() { return detail::written(pathserve_journal, get()); }
 
+    // Lets go of the journal, and keeps none from then on. `forget` begins one again.
+    void keep_no_journal() { must(pathserve_keep_no_journal(get())); }
+
     // Begins the journal anew, with one turn that adds what stands: the next turn is the second.
     void forget() { must(pathserve_forget(get())); }
 

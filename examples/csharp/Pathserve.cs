@@ -16,7 +16,7 @@ namespace Pathserve
     public enum Status : uint
     {
         Done = 0, BadLine = 3, NoMemory = 6, TooLong = 7, Closed = 16, Open = 17, Other = 18, Ended = 19, NoMap = 20, BadValue = 21,
-        Small = 22, PastLimit = 23
+        Small = 22, PastLimit = 23, NoJournal = 24
     }
 
     public enum Report : uint { Replay = 0, Profile = 1, Flow = 2, Smooth = 3 }
@@ -305,6 +305,7 @@ namespace Pathserve
             [In] byte[] script, UIntPtr length, ref ulong badLine, [Out] byte[] buffer, UIntPtr bufferLength, out UIntPtr whole);
         [DllImport(Library)] internal static extern Status pathserve_snapshot(
             ref Handle view, [Out] byte[] buffer, UIntPtr length, out UIntPtr whole);
+        [DllImport(Library)] internal static extern Status pathserve_keep_no_journal(ref Handle match);
         [DllImport(Library)] internal static extern Status pathserve_forget(ref Handle match);
         [DllImport(Library)] internal static extern Status pathserve_turn_digest(ref Handle match, ref ulong digest);
         [DllImport(Library)] internal static extern Status pathserve_view_digest(ref Handle view, ref ulong digest);
@@ -482,6 +483,9 @@ namespace Pathserve
             Native.Must(Native.pathserve_script_cause(script, length, ref line, text, whole, out whole));
             return Native.Said(text, whole);
         }
+
+        /// <summary>Lets go of the journal, and keeps none from then on. `Forget` begins one again.</summary>
+        public void KeepNoJournal() { Native.Must(Native.pathserve_keep_no_journal(ref handle)); }
 
         /// <summary>Begins the journal anew, with one turn that adds what stands: the next turn is the second.</summary>
         public void Forget() { Native.Must(Native.pathserve_forget(ref handle)); }

@@ -183,7 +183,10 @@ fn played(alloc: Global, script: &[&str]) -> Result<(Bytes, Bytes), ScriptFault>
         let told = ended(alloc, &mut game, before as u64 + 1, posts)?;
         text.extend(told.as_slice())?;
     }
-    Ok((text, game.script(alloc)?))
+    match game.script(alloc)? {
+        Some(again) => Ok((text, again)),
+        None => Err(ScriptFault::ReadFault),
+    }
 }
 
 /// Whether a match by posts tells the same, and its script is answered alike by a match that is fed.

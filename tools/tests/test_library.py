@@ -239,6 +239,11 @@ class Clients(unittest.TestCase):
         told, status = answers(program, words=[os.path.join(TOP, "examples", "skirmish.script")])
         self.assertEqual(status, 0, told)
 
+    def test_a_match_without_a_journal_does_not_grow(self):
+        program = built(self.folder, "tools/tests/library/grows.c", "libpathserve_noheap.a", SANE)
+        told, status = answers(program)
+        self.assertEqual(status, 0, told)
+
     def test_threads_with_views(self):
         program = built(self.folder, "tools/tests/library/threads.c", flags=["-g", "-pthread"])
         self.assertEqual(answers(program), (b"", 0))
@@ -644,6 +649,28 @@ class Python(unittest.TestCase):
                                 opened.end_turn()
                                 self.assertEqual(opened.digest(), digest)
                                 compared += 1
+        self.assertGreater(compared, 100)
+
+    def test_a_match_without_a_journal_differs_in_nothing_else(self):
+        compared = 0
+        for posted, _ in self.said(60):
+            with posted.open() as match, posted.open() as keeper:
+                match.keep_no_journal()
+                for at, posts in enumerate(posted.turns):
+                    for its in (match, keeper):
+                        its.post(posts)
+                    self.assertEqual(match.end_turn(), keeper.end_turn())
+                    self.assertEqual(match.digest(), keeper.digest())
+                    with match.view() as view, keeper.view() as other:
+                        self.assertEqual((view.snapshot(), view.digest()), (other.snapshot(), other.digest()))
+                        saved = view.snapshot()
+                    with self.assertRaises(self.api.Failed) as raised:
+                        match.journal()
+                    self.assertEqual(raised.exception.status, self.api.Status.NO_JOURNAL)
+                    compared += 1
+                match.forget()
+                if posted.turns:
+                    self.assertEqual(match.journal(), saved)
         self.assertGreater(compared, 100)
 
     def test_a_script_that_opens_no_match_is_refused_by_its_line(self):

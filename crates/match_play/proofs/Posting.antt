@@ -1,5 +1,5 @@
 -- One turn more of a match whose turns are posts.
-use Rattle.std.proofs.Common.{◌≡◌, ℕ, ◌+◌, ◌<◌, List, [], ◌∷◌, ◌++◌, All, length, take, get_or, sym, ap, subst, ◌∙◌, append_assoc, append-nil, arith}
+use Rattle.std.proofs.Common.{◌≡◌, ℕ, ◌+◌, ◌<◌, List, [], ◌∷◌, ◌++◌, All, length, take, get_or, Some, refl, sym, ap, subst, ◌∙◌, append_assoc, append-nil, arith}
 use Rattle.std.proofs.lemmas.List.{take_more, length-take-le}
 use Rattle.std.proofs.lemmas.List.Elements.{All-nil, All-cons, All-append}
 use Rattle.posts.specs.declared.posts.Post.{Post}
@@ -8,14 +8,19 @@ use Rattle.script_text.specs.Canon.{HaveLines, canon_journal}
 use Rattle.script_text.specs.ReadsBack.{canon_turns}
 use Rattle.turn_core.specs.Turns.{after_turn, standing}
 use Rattle.turn_core.specs.Words.{Standing, bare}
+use Rattle.match_play.specs.declared.posted.EndedTurns.{EndedTurns}
+use Rattle.match_play.specs.declared.posted.EndedTurns.TheVariants as ended
+use Rattle.match_play.specs.Posted.{counted}
+use Rattle.match_play.specs.inner.Kept.{HoldsTurns, one_more}
+use Rattle.grid_versions.specs.Versions.{MapState}
 use Rattle.turn_core.proofs.Threads.{standing_more}
 
-pub one_more : (m : Map) (s : Standing) (journal : List (List (List Post))) (posts item : List (List Post)) (now : Map) (stands : Standing)
+one_turn_more : (m : Map) (s : Standing) (journal : List (List (List Post))) (posts item : List (List Post)) (now : Map) (stands : Standing)
     (pushed : List (List (List Post))) → s ≡ standing m bare journal → All (HaveLines m.version) journal → HaveLines m.version posts
     → All (λ turn. length turn ≡ m.callers) journal → length posts ≡ m.callers
     → now ≡ m → stands ≡ after_turn m s posts → item ≡ posts → pushed ≡ journal ++ item ∷ []
     → (stands ≡ standing now bare pushed) × All (HaveLines now.version) pushed × All (λ turn. length turn ≡ now.callers) pushed
-one_more m s journal posts item now stands pushed before lines line lists list on after last push =
+one_turn_more m s journal posts item now stands pushed before lines line lists list on after last push =
     let Lists : Map → List (List Post) → Type 0 = λ x t. length t ≡ x.callers in
     let all : pushed ≡ journal ++ posts ∷ [] = push ∙ ap (λ (p : List (List Post)). journal ++ p ∷ []) last in
     let here : stands ≡ standing m bare (journal ++ posts ∷ []) =
@@ -28,6 +33,32 @@ one_more m s journal posts item now stands pushed before lines line lists list o
       subst (λ (x : Map). All (HaveLines x.version) pushed) (sym on) (subst (All (HaveLines m.version)) (sym all) more),
       subst (λ (x : Map). All (Lists x) pushed) (sym on) (subst (All (Lists m)) (sym all) counts),
     )
+
+-- a turn more is at least one
+counted_some : (turns : ℕ) → counted turns ≡ 0 → ⊥
+counted_some turns is = absurd (omega (arith, is))
+
+-- what is held after a turn more leads to what stands after it
+pub holds_more : (version : MapState) (held : EndedTurns) (posts item : List (List Post)) (now : MapState) (pushed : EndedTurns)
+    → HoldsTurns version held → HaveLines version.map.version posts → length posts ≡ version.map.callers
+    → now.map ≡ version.map → now.standing ≡ after_turn version.map version.standing posts → item ≡ posts → pushed ≡ one_more held item
+    → HoldsTurns now pushed
+holds_more version (ended.Kept journal) posts item now pushed before line list on after last push =
+    let all = one_turn_more version.map version.standing journal posts item now.map now.standing (journal ++ item ∷ []) before.stands before.lines
+    line before.lists list on after last refl in
+    subst (HoldsTurns now) (sym push) (record { stands = all.0; lines = all.1; lists = all.2 })
+holds_more version (ended.Counted turns) posts item now pushed before line list on after last push =
+    subst (HoldsTurns now) (sym push) (record {
+      journal = before.journal ++ posts ∷ [];
+      stands = after ∙ (ap (λ (t : Standing). after_turn version.map t posts) before.stands
+          ∙ (sym (standing_more version.map bare before.journal posts)
+          ∙ ap (λ (m : Map). standing m bare (before.journal ++ posts ∷ [])) (sym on)));
+      none = λ is. absurd (counted_some turns is);
+    })
+
+-- one journal is kept
+pub same_journal : (one two : List (List (List Post))) → Some one ≡ Some two → one ≡ two
+same_journal one two is = cc
 
 -- ---- the turns as text
 

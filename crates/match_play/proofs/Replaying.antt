@@ -7,7 +7,7 @@ use Rattle.posts.specs.declared.replies.TurnReplies.{TurnReplies}
 use Rattle.posts.specs.Maps.{Map}
 use Rattle.turn_core.specs.Turns.{IsTurnTold, standing}
 use Rattle.turn_core.specs.Words.{bare}
-use Rattle.match_play.specs.Posted.{PostedState}
+use Rattle.match_play.specs.Posted.{Past, PostedState, Kept, standing_in, with_turn}
 use Rattle.match_play.specs.Replays.{IsLastTold}
 
 -- the turn that was handed out keeps to the map, and is the next of the journal
@@ -23,18 +23,18 @@ taken_next journal done turn below is =
 
 -- a turn more was played
 pub game_next : (m : Map) (journal done : List (List (List Post))) (turn : List (List Post)) (old new : PostedState) (told : TurnReplies)
-    → length done < length journal → turn ≡ get_or journal (length done) turn → old ≡ record { map = m; journal = take (length done) journal }
-    → new.map ≡ old.map → new.journal ≡ old.journal ++ turn ∷ [] → IsTurnTold old.map (standing old.map bare old.journal) turn told
-    → (new ≡ record { map = m; journal = take (length (done ++ turn ∷ [])) journal })
+    → length done < length journal → turn ≡ get_or journal (length done) turn → old ≡ record { map = m; past = Kept (take (length done) journal) }
+    → new.map ≡ old.map → new.past ≡ with_turn old.map old.past turn → IsTurnTold old.map (standing_in old) turn told
+    → (new ≡ record { map = m; past = Kept (take (length (done ++ turn ∷ [])) journal) })
     × IsLastTold m (take (length (done ++ turn ∷ [])) journal) (Some told)
 game_next m journal done turn old new told below is was map pushed answer =
     let grown = taken_next journal done turn below is in
     let on : new.map ≡ m = map ∙ ap (λ (s : PostedState). s.map) was in
-    let all : new.journal ≡ take (length (done ++ turn ∷ [])) journal =
-    pushed ∙ (ap (λ (s : PostedState). s.journal ++ turn ∷ []) was ∙ sym grown) in (
-      λ i. record { map = on i; journal = all i },
+    let all : new.past ≡ Kept (take (length (done ++ turn ∷ [])) journal) =
+    pushed ∙ (ap (λ (s : PostedState). with_turn s.map s.past turn) was ∙ ap Kept (sym grown)) in (
+      λ i. record { map = on i; past = all i },
       (
         take (length done) journal,
-        (turn, (grown, subst (λ (s : PostedState). IsTurnTold s.map (standing s.map bare s.journal) turn told) was answer)),
+        (turn, (grown, subst (λ (s : PostedState). IsTurnTold s.map (standing_in s) turn told) was answer)),
       ),
     )

@@ -9,9 +9,8 @@ use Rattle.posts.specs.declared.posts.Post.TheVariants.{Edit as Edits}
 use Rattle.posts.specs.Maps.{Map}
 use Rattle.script_text.specs.ReadsBack.{canon_script}
 use Rattle.script_text.specs.Script.{no_posts}
-use Rattle.turn_core.specs.Turns.{standing}
-use Rattle.turn_core.specs.Words.{MapState, bare}
-use Rattle.match_play.specs.Posted.{PostedState}
+use Rattle.turn_core.specs.Words.{MapState}
+use Rattle.match_play.specs.Posted.{PostedState, Kept, standing_in, turns_of}
 
 -- an add of an obstruction under its number
 abbrev pub add_of : ℕ × Obstruction → Post
@@ -38,11 +37,11 @@ in_newest m = record m { version = 3 }
 abbrev pub snapshot_of : MapState → List ℕ
 snapshot_of version = canon_script (in_newest version.map) (saved version.map version.standing)
 
--- the journal that begins anew: one turn of adds in place of all that have ended, if any has
-abbrev pub begun_anew : Map → List (List (List Post)) → List (List (List Post))
-begun_anew m [] = []
-begun_anew m (turn ∷ turns) = saved m (standing m bare (turn ∷ turns))
+-- the journal that begins anew, where so many turns have ended: one turn of adds in place of them, if there is any
+abbrev pub begun_anew : Map → Standing → ℕ → List (List (List Post))
+begun_anew m standing zero = []
+begun_anew m standing (suc turns) = saved m standing
 
--- the match has forgotten how what stands came to stand
+-- the match has forgotten how what stands came to stand, and keeps a journal from then on
 abbrev pub forgetting : PostedState → PostedState
-forgetting game = record game { journal = begun_anew game.map game.journal }
+forgetting game = record game { past = Kept (begun_anew game.map (standing_in game) (turns_of game.past)) }

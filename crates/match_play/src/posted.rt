@@ -1,12 +1,15 @@
 //! Matches whose turns are posts as data.
-ghost use Rattle.std.specs.Prelude.{◌≡◌, ◌++◌, ◌∷◌, [], All, IfErr, IfOk, OnErr, OnOk, length};
+ghost use Rattle.std.specs.Prelude.{◌≡◌, ◌≢◌, ◌≤◌, ◌++◌, [], All, IfErr, IfNone, IfOk, IfSome, IsSome, List, None, OnErr, OnOk, Some, length};
+ghost use Rattle.posts.specs.declared.posts.Post.{Post};
 ghost use Rattle.posts.specs.Posts.{jobs};
 ghost use Rattle.script_text.specs.Canon.{HaveLines};
 ghost use Rattle.script_text.specs.ReadsBack.{ArePostValues, IsWithinLimits, ReadsAs, canon_script, canon_turns};
 ghost use Rattle.turn_core.specs.Notes.{AreNotes};
-ghost use Rattle.turn_core.specs.Turns.{IsTurnTold, after_turn, standing};
-ghost use Rattle.turn_core.specs.Words.{bare};
-ghost use Rattle.match_play.specs.Saved.{forgetting};
+ghost use Rattle.turn_core.specs.Turns.{IsTurnTold, after_turn};
+ghost use Rattle.match_play.specs.Posted.{Kept, journal_of, standing_in, turns_of, with_turn, without_journal};
+ghost use Rattle.match_play.specs.Replays.{script_of};
+ghost use Rattle.match_play.specs.Saved.{begun_anew, forgetting};
+ghost use Rattle.match_play.specs.inner.Kept.{one_more};
 
 use crate::saved::adding_turn;
 use grid_versions::Version;
@@ -24,41 +27,64 @@ pub struct EndedTurn {
     pub notes: Notes,
 }
 
-/// A match on a map that was made of its parts, whose turns are posts as data. Contracts see the map, and the turns that
-/// have ended (`PostedState`).
+/// The turns that have ended: all of them, or how many they were.
+#[derive(Drop)]
+pub enum EndedTurns {
+    Kept(Journal),
+    Counted(u64),
+}
+
+impl EndedTurns {
+    /// Takes a turn more, and keeps it where turns are kept. The count stays at its greatest number.
+    fn push(&mut self, posts: TurnPosts) -> Result<(), (NoMemory, TurnPosts)>
+        ensures ok { OnOk result (self.new ≡ one_more self.old posts) }
+        ensures err { OnErr result (self.new ≡ self.old) }
+        ensures posts { IfErr result (λ refused. refused.1 ≡ posts) }
+    {
+        match self {
+            EndedTurns::Kept(journal) => journal.push(posts),
+            EndedTurns::Counted(turns) => {
+                *turns = turns.saturating_add(1);
+                Ok(())
+            }
+        }
+    }
+}
+
+/// A match on a map that was made of its parts, whose turns are posts as data. Contracts see the map, and what is kept of the
+/// turns that have ended (`PostedState`): the journal of a match has them all, and a match that keeps no journal knows what
+/// stands after them and how many they were.
 #[derive(Drop)]
 pub struct PostedMatch {
     version: Version,
-    journal: Journal,
+    ended: EndedTurns,
     thread: OneThread,
 }
 
 impl Model for PostedMatch {
-    ghost use Rattle.std.specs.Prelude.{◌≡◌, All, List, length};
-    ghost use Rattle.posts.specs.declared.posts.Post.{Post};
-    ghost use Rattle.script_text.specs.Canon.{HaveLines};
-    ghost use Rattle.turn_core.specs.Turns.{standing};
-    ghost use Rattle.turn_core.specs.Words.{bare};
+    ghost use Rattle.grid_versions.specs.contracts.versions.Version.{the_row as version_row};
+    ghost use Rattle.posts.specs.contracts.posts.Post.{the_row as post_row};
     ghost use Rattle.match_play.specs.Posted.{PostedState};
+    ghost use Rattle.match_play.specs.inner.Kept.{HoldsTurns, past_of, posted_code};
 
     ghost Value = { PostedState };
 
-    ghost view = { λ m. record { map = m.version.map; journal = m.journal } };
+    ghost coded = { posted_code version_row.coded post_row.coded };
 
-    ghost invariant = { λ m. (m.version.standing ≡ standing m.version.map bare m.journal)
-        × All (HaveLines m.version.map.version) m.journal
-        × All (λ (turn : List (List Post)). length turn ≡ m.version.map.callers) m.journal };
+    ghost view = { λ m. record { map = m.version.map; past = past_of m.version.standing m.ended } };
+
+    ghost invariant = { λ m. HoldsTurns m.version m.ended };
 }
 
 impl PostedMatch {
-    /// A match on a map, before its first turn. It refuses for want of memory alone.
+    /// A match on a map, before its first turn, which keeps a journal. It refuses for want of memory alone.
     pub fn open(alloc: Global, map: &MapSpec) -> Result<PostedMatch, NoMemory>
-        ensures { IfOk result (λ made. made ≡ record { map = map.now; journal = [] }) }
+        ensures { IfOk result (λ made. made ≡ record { map = map.now; past = Kept [] }) }
     {
         let version = bare_version(alloc, map)?;
         Ok(PostedMatch {
             version,
-            journal: Journal::new(alloc),
+            ended: EndedTurns::Kept(Journal::new(alloc)),
             thread: OneThread::new(),
         })
     }
@@ -77,13 +103,12 @@ impl PostedMatch {
     ) -> Result<EndedTurn, (NoMemory, TurnPosts)>
         requires lists { length posts ≡ self.old.map.callers }
         requires lines { HaveLines self.old.map.version posts }
-        ensures told { IfOk result (λ ended.
-            IsTurnTold self.old.map (standing self.old.map bare self.old.journal) posts ended.replies) }
+        ensures told { IfOk result (λ ended. IsTurnTold self.old.map (standing_in self.old) posts ended.replies) }
         ensures notes { IfOk result (λ ended. AreNotes self.old.map
-            (after_turn self.old.map (standing self.old.map bare self.old.journal) posts) report (jobs posts) ended.notes) }
+            (after_turn self.old.map (standing_in self.old) posts) report (jobs posts) ended.notes) }
         ensures map { self.new.map ≡ self.old.map }
-        ensures ok { OnOk result (self.new.journal ≡ self.old.journal ++ posts ∷ []) }
-        ensures err { OnErr result (self.new.journal ≡ self.old.journal) }
+        ensures ok { OnOk result (self.new.past ≡ with_turn self.old.map self.old.past posts) }
+        ensures err { OnErr result (self.new.past ≡ self.old.past) }
         ensures posts { IfErr result (λ refused. refused.1 ≡ posts) }
     {
         let NotedTurn {
@@ -92,60 +117,92 @@ impl PostedMatch {
             notes,
             after,
         } = noted_turn(alloc, &mut self.thread, &self.version, posts, report)?;
-        self.journal.push(posts)?;
+        self.ended.push(posts)?;
         self.version = after;
         Ok(EndedTurn { replies, notes })
     }
 
+    /// Lets go of the journal, and keeps no turn from then on. What stands is as it was, and the number of the next turn.
+    pub fn keep_no_journal(&mut self)
+        ensures { self.new ≡ without_journal self.old }
+    {
+        self.ended = EndedTurns::Counted(self.turns());
+    }
+
     /// Forgets how what stands came to stand: the journal begins anew, with one turn in which caller 0 adds all that stands
-    /// (`forgetting`), unless it has no turn. What stands is as it was, and the next turn is the second.
+    /// (`forgetting`), unless no turn has ended. What stands is as it was, and the next turn is the second. A match that kept
+    /// no journal keeps one from then on.
     pub fn forget(&mut self, alloc: Global) -> Result<(), NoMemory>
         requires newest { self.old.map.version ≡ 3 }
         ensures ok { OnOk result (self.new ≡ forgetting self.old) }
-        ensures stands { standing self.new.map bare self.new.journal ≡ standing self.old.map bare self.old.journal }
+        ensures stands { standing_in self.new ≡ standing_in self.old }
         ensures err { OnErr result (self.new ≡ self.old) }
     {
-        if self.journal.is_empty() {
-            return Ok(());
-        }
-        let turn = adding_turn(alloc, &self.version)?;
-        let mut journal = Journal::new(alloc);
-        journal.push(turn)?;
-        self.journal = journal;
+        let journal = begun_anew(alloc, &self.version, self.turns())?;
+        self.ended = EndedTurns::Kept(journal);
         Ok(())
     }
 
     /// The version after the turns that have ended.
     pub fn version(&self) -> &Version
         ensures map { result.now.map ≡ self.now.map }
-        ensures standing { result.now.standing ≡ standing self.now.map bare self.now.journal }
+        ensures standing { result.now.standing ≡ standing_in self.now }
     {
         &self.version
     }
 
-    /// The turns that have ended.
-    pub fn journal(&self) -> &Journal
-        ensures { result.now ≡ self.now.journal }
+    /// How many turns have ended.
+    pub fn turns(&self) -> u64
+        ensures { result ≡ turns_of self.now.past }
     {
-        &self.journal
+        match &self.ended {
+            EndedTurns::Kept(journal) => journal.len() as u64,
+            EndedTurns::Counted(turns) => *turns,
+        }
     }
 
-    /// The match as a script: the canonical text of its map and its turns (`canon_script`), which gives another match the
-    /// same map and the same turns where the text is within the limits of an input (`ReadsAs`).
-    pub fn script(&self, alloc: Global) -> Result<Bytes, NoMemory>
-        ensures text { IfOk result (λ text. text ≡ canon_script self.now.map self.now.journal) }
-        ensures reads_back { OnOk result (IsWithinLimits (canon_script self.now.map self.now.journal)
-            → ReadsAs self.now.map self.now.journal (canon_script self.now.map self.now.journal)) }
+    /// The turns that have ended. None exactly where the match keeps no journal.
+    pub fn journal(&self) -> Option<&Journal>
+        ensures some { IfSome result (λ journal. journal_of self.now.past ≡ Some journal.now) }
+        ensures none { IfNone result (journal_of self.now.past ≡ None) }
     {
-        let mut text = write_map(alloc, self.version.map())?;
-        push_turns(
-            alloc,
-            &mut text,
-            self.version.map(),
-            self.journal.as_slice(),
-        )?;
-        Ok(text)
+        match &self.ended {
+            EndedTurns::Kept(journal) => Some(journal),
+            EndedTurns::Counted(_) => None,
+        }
     }
+
+    /// The match as a script: the canonical text of its map and its turns (`script_of`), which gives another match the
+    /// same map and the same turns where the text is within the limits of an input (`ReadsAs`). None exactly where the match
+    /// keeps no journal, which takes no memory.
+    pub fn script(&self, alloc: Global) -> Result<Option<Bytes>, NoMemory>
+        ensures text { IfOk result (λ text. text ≡ script_of self.now) }
+        ensures reads_back { OnOk result ((journal : List (List (List Post))) → journal_of self.now.past ≡ Some journal
+            → IsWithinLimits (canon_script self.now.map journal) → ReadsAs self.now.map journal (canon_script self.now.map journal)) }
+        ensures kept { OnErr result (IsSome (journal_of self.now.past)) }
+    {
+        match &self.ended {
+            EndedTurns::Kept(journal) => {
+                let mut text = write_map(alloc, self.version.map())?;
+                push_turns(alloc, &mut text, self.version.map(), journal.as_slice())?;
+                Ok(Some(text))
+            }
+            EndedTurns::Counted(_) => Ok(None),
+        }
+    }
+}
+
+/// The journal that begins anew on a version, where so many turns have ended.
+fn begun_anew(alloc: Global, version: &Version, turns: u64) -> Result<Journal, NoMemory>
+    ensures journal { IfOk result (λ journal. journal ≡ begun_anew version.now.map version.now.standing turns) }
+    ensures callers { OnOk result (turns ≢ 0 → 1 ≤ version.now.map.callers) }
+{
+    let mut journal = Journal::new(alloc);
+    if turns > 0 {
+        let turn = adding_turn(alloc, version)?;
+        journal.push(turn)?;
+    }
+    Ok(journal)
 }
 
 /// Appends the canonical text of turns, from turn 1 on.

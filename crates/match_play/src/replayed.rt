@@ -1,5 +1,6 @@
 //! Matches that are opened again from a script.
 ghost use Rattle.std.specs.Prelude.{◌≡◌, All, IfOk};
+ghost use Rattle.match_play.specs.Posted.{Kept};
 ghost use Rattle.match_play.specs.Replays.{IsLastTold, PlaysAs};
 ghost use Rattle.match_play.specs.Scripts.{IsTurnOn};
 
@@ -31,7 +32,7 @@ pub fn open_script(alloc: Global, script: &[u8]) -> Result<OpenedMatch, MatchFau
 /// Plays turns on a map.
 fn play(alloc: Global, map: &MapSpec, journal: Journal) -> Result<OpenedMatch, NoMemory>
     requires turns { All (IsTurnOn map.now) journal }
-    ensures game { IfOk result (λ opened. opened.game ≡ record { map = map.now; journal = journal }) }
+    ensures game { IfOk result (λ opened. opened.game ≡ record { map = map.now; past = Kept journal }) }
     ensures told { IfOk result (λ opened. IsLastTold map.now journal opened.told) }
 {
     let mut game = PostedMatch::open(alloc, map)?;

@@ -1,15 +1,16 @@
 -- What calls make of what a handle holds.
 use Rattle.std.specs.Prelude.{ℕ, ◌≡◌, ◌≢◌, ◌<◌, ◌⊎◌, Bool, true, false, List, [], ◌∷◌, ◌++◌, length, drop, slice_get, Option, Some, None, option_map, Result}
 use Rattle.std.specs.List.{Contains}
+use Rattle.posts.specs.declared.posts.Post.{Post}
 use Rattle.posts.specs.Maps.{Map}
 use Rattle.posts.specs.declared.notes.Report.{Report}
 use Rattle.turn_core.specs.declared.reports.TheConstants.{REPORTS}
 use Rattle.match_play.specs.declared.faults.MatchFault.{MatchFault}
 use Rattle.match_play.specs.Playing.{said_of}
 use Rattle.grid_versions.specs.Versions.{MapState, map_state}
-use Rattle.match_play.specs.Posted.{PostedState}
+use Rattle.match_play.specs.Posted.{Past, Kept, Unkept, standing_in, turns_of}
 use Rattle.match_play.specs.Texts.{Said}
-use Rattle.script_text.specs.ReadsBack.{IsWithinLimits, ReadsAs}
+use Rattle.script_text.specs.ReadsBack.{IsWithinLimits, ReadsAs, canon_script}
 use Rattle.flat_posts.specs.declared.map_parts.FlatClass.{FlatClass}
 use Rattle.flat_posts.specs.declared.map_parts.FlatRect.{FlatRect}
 use Rattle.flat_posts.specs.declared.maps.FlatMap.{FlatMap}
@@ -19,9 +20,9 @@ use Rattle.flat_posts.specs.Maps.{IsMapOf}
 use Rattle.flat_posts.specs.Replies.{flat_turn}
 use Rattle.pathserve_c.specs.declared.states.State.{State}
 use Rattle.pathserve_c.specs.declared.states.State.TheVariants.{Text, Structs, View, Finder}
-use Rattle.pathserve_c.specs.declared.statuses.TheConstants.{DONE, NO_MEMORY, CLOSED, OPEN, NO_MAP, BAD_VALUE, SMALL, PAST_LIMIT}
+use Rattle.pathserve_c.specs.declared.statuses.TheConstants.{DONE, NO_MEMORY, CLOSED, OPEN, NO_MAP, BAD_VALUE, SMALL, PAST_LIMIT, NO_JOURNAL}
 use Rattle.pathserve_c.specs.Statuses.{refusal, status_of, status_of_posts}
-use Rattle.pathserve_c.specs.Structs.{StructState, Ends, IsNew, has_room, PostsAs, script_of, standing_in}
+use Rattle.pathserve_c.specs.Structs.{StructState, Ends, IsNew, has_room, PostsAs}
 use Rattle.pathserve_c.specs.declared.statuses.PostFault.{PostFault}
 use Rattle.pathserve_c.specs.LineLimits.{fits_limit}
 use Rattle.pathserve_c.specs.Texts.{TextState, IsUnread, Feeds, Finishes, Takes}
@@ -148,7 +149,7 @@ IsPosted (Some (Structs old)) new flats status = IsPostedTo (has_room old (lengt
 pub record HasEnded (old new : StructState) (turn : FlatTurn) (status : ℕ) : Type 0 where
   pub done : status ≡ DONE
   pub ends : Ends old new
-  pub told : turn ≡ flat_turn (length new.game.journal) new.told
+  pub told : turn ≡ flat_turn (turns_of new.game.past) new.told
 
 -- There was no memory, and all is as it was.
 pub record IsUnended (old new : StructState) (before after : FlatTurn) (status : ℕ) : Type 0 where
@@ -169,16 +170,28 @@ IsEnded (Some (Finder finder)) new before after status = IsRefusedUntold (Some (
 IsEnded (Some (Structs old)) new before after status = (made : StructState)
     × ((new ≡ Some (Structs made)) × (HasEnded old made after status ⊎ IsUnended old made before after status))
 
--- Of a match by structs, its script stands at the head of the buffer, or the buffer is too small, or there was no memory.
--- Where the script is within the limits of an input, a match that is fed with it gets the same map and the same turns.
-pub record IsScript (game : PostedState) (before after : List ℕ) (old new status : ℕ) : Type 0 where
+-- Of a match by structs with this map and journal, its script stands at the head of the buffer, or the buffer is too small, or
+-- there was no memory. Where the script is within the limits of an input, a match that is fed with it gets the same map and
+-- the same turns.
+pub record IsScript (map : Map) (journal : List (List (List Post))) (before after : List ℕ) (old new status : ℕ) : Type 0 where
   pub statuses : Contains (DONE ∷ SMALL ∷ NO_MEMORY ∷ []) status
-  pub done : status ≡ DONE → after ≡ script_of game ++ drop (length (script_of game)) before
-  pub small : status ≡ SMALL → length before < length (script_of game)
+  pub done : status ≡ DONE → after ≡ canon_script map journal ++ drop (length (canon_script map journal)) before
+  pub small : status ≡ SMALL → length before < length (canon_script map journal)
   pub kept : status ≢ DONE → after ≡ before
-  pub known : status ≢ NO_MEMORY → new ≡ length (script_of game)
+  pub known : status ≢ NO_MEMORY → new ≡ length (canon_script map journal)
   pub unknown : status ≡ NO_MEMORY → new ≡ old
-  pub reads_back : status ≡ DONE → IsWithinLimits (script_of game) → ReadsAs game.map game.journal (script_of game)
+  pub reads_back : status ≡ DONE → IsWithinLimits (canon_script map journal) → ReadsAs map journal (canon_script map journal)
+
+-- the match keeps no journal, and nothing was written
+pub record HasNoScript (before after : List ℕ) (old new status : ℕ) : Type 0 where
+  pub why : status ≡ NO_JOURNAL
+  pub kept : after ≡ before
+  pub unknown : new ≡ old
+
+-- the script was written of what a match by structs keeps, where it keeps a journal
+abbrev pub IsScriptOf : Map → Past → (before after : List ℕ) → (old new status : ℕ) → Type 0
+IsScriptOf map (Kept journal) before after old new status = IsScript map journal before after old new status
+IsScriptOf map (Unkept standing turns) before after old new status = HasNoScript before after old new status
 
 -- nothing was written
 abbrev pub IsRefusedUnwritten : Option State → (before after : List ℕ) → (old new : ℕ) → ℕ → Type 0
@@ -191,4 +204,4 @@ IsWritten (Some (Text text)) before after old new status = IsRefusedUnwritten (S
 IsWritten (Some (View version)) before after old new status = IsRefusedUnwritten (Some (View version)) before after old new status
 IsWritten (Some (Finder finder)) before after old new status = IsRefusedUnwritten (Some (Finder finder)) before after old new status
 IsWritten (Some (Structs structs)) before after old new status =
-    IsScript structs.game before after old new status
+    IsScriptOf structs.game.map structs.game.past before after old new status

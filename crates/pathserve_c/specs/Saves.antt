@@ -2,10 +2,12 @@
 use Rattle.std.specs.Prelude.{ℕ, ◌≡◌, ◌≢◌, ◌⊎◌, ◌<◌, List, [], ◌∷◌, ◌++◌, length, drop, Result, Ok, Err, Option, Some, None}
 use Rattle.std.specs.List.{Contains}
 use Rattle.posts.specs.declared.posts.Post.{Post}
+use Rattle.posts.specs.declared.replies.TurnReplies.{TurnReplies}
 use Rattle.posts.specs.Maps.{Map}
 use Rattle.grid_versions.specs.Versions.{MapState}
 use Rattle.script_text.specs.ReadsBack.{IsWithinLimits, ReadsAs}
 use Rattle.match_play.specs.declared.faults.MatchFault.TheVariants as fault
+use Rattle.match_play.specs.Posted.{Kept, standing_in, without_journal}
 use Rattle.match_play.specs.Saved.{forgetting, in_newest, saved, snapshot_of}
 use Rattle.match_play.specs.Replays.{IsLastTold}
 use Rattle.match_play.specs.Scripts.{RefusesScript}
@@ -16,21 +18,22 @@ use Rattle.pathserve_c.specs.declared.openings.OpenFault.{OpenFault}
 use Rattle.pathserve_c.specs.declared.openings.OpenFault.TheVariants.{Script, OldVersion}
 use Rattle.pathserve_c.specs.Calls.{IsRefused, IsRefusedUnwritten}
 use Rattle.pathserve_c.specs.Statuses.{refusal, status_of}
-use Rattle.pathserve_c.specs.Structs.{StructState, standing_in}
+use Rattle.pathserve_c.specs.Structs.{StructState}
 
 -- ---- opened from a script
 
--- what a match was told last is what its last turn is answered; where it has no turn, nothing
-abbrev pub IsToldLast : StructState → Type 0
-IsToldLast state = IsLastTold state.game.map state.game.journal (Some state.told)
-    ⊎ (IsLastTold state.game.map state.game.journal None × (state.told.replies ≡ []))
+-- what a match was told last is what the last of its turns is answered; where it has none, nothing
+abbrev pub IsToldLast : Map → List (List (List Post)) → TurnReplies → Type 0
+IsToldLast map turns told = IsLastTold map turns (Some told) ⊎ (IsLastTold map turns None × (told.replies ≡ []))
 
--- The match has the map of a whole script and its turns, and was told what the last of them is answered. None has posts,
--- and as many may wait as there can be.
+-- The match has the map of a whole script and a journal of its turns, and was told what the last of them is answered. None has
+-- posts, and as many may wait as there can be.
 pub record IsPlayed (script : List ℕ) (state : StructState) : Type 0 where
-  pub reads : ReadsAs state.game.map state.game.journal script
+  pub journal : List (List (List Post))
+  pub keeps : state.game.past ≡ Kept journal
+  pub reads : ReadsAs state.game.map journal script
   pub newest : state.game.map.version ≡ 3
-  pub told : IsToldLast state
+  pub told : IsToldLast state.game.map journal state.told
   pub posted : state.posted ≡ []
   pub most : state.most ≡ 18446744073709551615
 
@@ -121,3 +124,14 @@ IsForgotten (Some (View version)) new status = IsRefused (refusal (Some (View ve
 IsForgotten (Some (Finder finder)) new status = IsRefused (refusal (Some (Finder finder))) (Some (Finder finder)) new status
 IsForgotten (Some (Structs old)) new status =
     (made : StructState) × ((new ≡ Some (Structs made)) × (HasForgotten old made status ⊎ HasKept old made status))
+
+-- ---- no journal
+
+-- a match by structs keeps no journal from then on, and all else is as it was; anything else refuses
+abbrev pub IsUnkept : Option State → Option State → ℕ → Type 0
+IsUnkept None new status = IsRefused (refusal None) None new status
+IsUnkept (Some (Text text)) new status = IsRefused (refusal (Some (Text text))) (Some (Text text)) new status
+IsUnkept (Some (View version)) new status = IsRefused (refusal (Some (View version))) (Some (View version)) new status
+IsUnkept (Some (Finder finder)) new status = IsRefused (refusal (Some (Finder finder))) (Some (Finder finder)) new status
+IsUnkept (Some (Structs old)) new status =
+    (status ≡ DONE) × (new ≡ Some (Structs (record old { game = without_journal old.game })))

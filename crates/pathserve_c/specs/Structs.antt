@@ -1,14 +1,12 @@
 -- Matches by structs: posts that wait for the end of their turn, and the replies to the turn that ended last.
-use Rattle.std.specs.Prelude.{ℕ, ◌≡◌, ◌+◌, Bool, List, [], ◌∷◌, ◌++◌, length, nat_le, Result, Ok, Err}
+use Rattle.std.specs.Prelude.{ℕ, ◌≡◌, ◌+◌, Bool, List, [], ◌++◌, length, nat_le, Result, Ok, Err}
 use Rattle.posts.specs.declared.posts.Post.{Post}
 use Rattle.posts.specs.declared.replies.TurnReplies.{TurnReplies}
 use Rattle.posts.specs.Maps.{Map}
-use Rattle.script_text.specs.ReadsBack.{canon_script}
-use Rattle.turn_core.specs.Turns.{IsTurnTold, standing}
-use Rattle.turn_core.specs.Words.{Standing, bare}
+use Rattle.turn_core.specs.Turns.{IsTurnTold}
 use Rattle.flat_posts.specs.declared.posted.FlatPost.{FlatPost}
 use Rattle.flat_posts.specs.TurnPosts.{ArePosts, turn_of}
-use Rattle.match_play.specs.Posted.{PostedState}
+use Rattle.match_play.specs.Posted.{PostedState, Kept, standing_in, with_turn}
 use Rattle.pathserve_c.specs.declared.statuses.PostFault.{PostFault}
 use Rattle.pathserve_c.specs.declared.statuses.PostFault.TheVariants.{BadValue, NoMemory}
 
@@ -26,7 +24,7 @@ has_room state count = nat_le (length state.posted + count) state.most
 -- no turn has ended, none has posts, and as many may wait as there can be
 pub record IsNew (map : Map) (state : StructState) : Type 0 where
   pub map_is : state.game.map ≡ map
-  pub journal : state.game.journal ≡ []
+  pub journal : state.game.past ≡ Kept []
   pub posted : state.posted ≡ []
   pub told : state.told.replies ≡ []
   pub most : state.most ≡ 18446744073709551615
@@ -46,14 +44,6 @@ PostsAs old new flats (Ok done) = TakesPosts old new flats
 PostsAs old new flats (Err BadValue) = (new ≡ old) × ((entries : List (ℕ × Post)) → ¬ ArePosts old.game.map flats entries)
 PostsAs old new flats (Err NoMemory) = new ≡ old
 
--- what stands after the turns that have ended
-abbrev pub standing_in : PostedState → Standing
-standing_in game = standing game.map bare game.journal
-
--- the match as a script: the canonical one of its map and its turns
-abbrev pub script_of : PostedState → List ℕ
-script_of game = canon_script game.map game.journal
-
 -- the turn that waits
 abbrev pub turn_in : StructState → List (List Post)
 turn_in state = turn_of state.game.map.callers state.posted
@@ -62,6 +52,6 @@ turn_in state = turn_of state.game.map.callers state.posted
 pub record Ends (old new : StructState) : Type 0 where
   pub told : IsTurnTold old.game.map (standing_in old.game) (turn_in old) new.told
   pub map_is : new.game.map ≡ old.game.map
-  pub journal : new.game.journal ≡ old.game.journal ++ turn_in old ∷ []
+  pub past : new.game.past ≡ with_turn old.game.map old.game.past (turn_in old)
   pub posted : new.posted ≡ []
   pub most : new.most ≡ old.most

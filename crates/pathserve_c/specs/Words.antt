@@ -2,7 +2,7 @@
 use Rattle.std.specs.Prelude.{ℕ, ◌==◌, ◌++◌, List, if◌then◌else◌, codes, drop, length, nat_lt, take}
 use Rattle.flat_posts.specs.declared.refusals.TheConstants.{BAD_SHAPE, DUPLICATE_ID, STORE_FULL, UNKNOWN_ID, UNKNOWN_CLASS, START_OUTSIDE, GOAL_OUTSIDE}
 use Rattle.pathserve_c.specs.declared.checks.TheConstants.{WRONG_KIND, WRONG_CALLER, WRONG_CLASS, WRONG_GOAL, NOT_ZERO}
-use Rattle.pathserve_c.specs.declared.statuses.TheConstants.{DONE, BAD_LINE, NO_MEMORY, TOO_LONG, CLOSED, OPEN, OTHER, ENDED, NO_MAP, BAD_VALUE, SMALL, PAST_LIMIT}
+use Rattle.pathserve_c.specs.declared.statuses.TheConstants.{DONE, BAD_LINE, NO_MEMORY, TOO_LONG, CLOSED, OPEN, OTHER, ENDED, NO_MAP, BAD_VALUE, SMALL, PAST_LIMIT, NO_JOURNAL}
 
 -- a buffer with a text at its head, or with as much of the text as it holds
 abbrev pub text_in : List ℕ → List ℕ → List ℕ
@@ -23,7 +23,8 @@ status_text status =
     if status == NO_MAP then codes "the map line has not been fed yet" else (
     if status == BAD_VALUE then codes "a value is no such kind, number or size, or an unused field is not 0" else (
     if status == SMALL then codes "the buffer is too small" else (
-    if status == PAST_LIMIT then codes "more than the limit that was set" else codes "no such status")))))))))))
+    if status == PAST_LIMIT then codes "more than the limit that was set" else (
+    if status == NO_JOURNAL then codes "the match keeps no journal" else codes "no such status"))))))))))))
 
 -- why a post is refused, by the word of the answers
 abbrev pub refusal_text : ℕ → List ℕ

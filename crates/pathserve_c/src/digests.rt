@@ -2,6 +2,7 @@
 ghost use Rattle.std.specs.Prelude.{◌≡◌, Some};
 ghost use Rattle.match_play.specs.Digests.{digest_of};
 ghost use Rattle.match_play.specs.Saved.{snapshot_of};
+ghost use Rattle.match_play.specs.Posted.{turns_of};
 ghost use Rattle.pathserve_c.specs.Digests.{IsTold, IsTurnDigest, IsViewDigest, digest_told};
 ghost use Rattle.pathserve_c.specs.Handles.{IsHandle, state_of};
 
@@ -57,7 +58,7 @@ fn tell_turn_of(alloc: Global, state: &State, digest: &mut u64) -> u32
 
 /// Tells the digest of the last turn of a match, and where it has none that of no bytes.
 fn tell_turn(alloc: Global, structs: &StructMatch, digest: &mut u64) -> u32
-    ensures { IsTold (digest_told structs.now.game.journal structs.now.told) digest.old digest.new result }
+    ensures { IsTold (digest_told (turns_of structs.now.game.past) structs.now.told) digest.old digest.new result }
 {
     if structs.turns() == 0 {
         *digest = 0;

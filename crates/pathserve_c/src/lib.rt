@@ -59,11 +59,11 @@ pub use openings::{OpenFault, pathserve_open_script};
 pub use questions::{pathserve_nearest, pathserve_standing_at, pathserve_view_size};
 pub use raw_box::RawBox;
 pub use sights::{pathserve_clear, pathserve_smooth};
-pub use snapshots::{pathserve_forget, pathserve_snapshot};
+pub use snapshots::{pathserve_forget, pathserve_keep_no_journal, pathserve_snapshot};
 pub use states::State;
 pub use statuses::{
-    BAD_LINE, BAD_VALUE, CLOSED, DONE, ENDED, NO_MAP, NO_MEMORY, OPEN, OTHER, PAST_LIMIT,
-    PostFault, SMALL, TOO_LONG, status_of, status_of_posts,
+    BAD_LINE, BAD_VALUE, CLOSED, DONE, ENDED, NO_JOURNAL, NO_MAP, NO_MEMORY, OPEN, OTHER,
+    PAST_LIMIT, PostFault, SMALL, TOO_LONG, status_of, status_of_posts,
 };
 pub use struct_matches::StructMatch;
 pub use structs::{

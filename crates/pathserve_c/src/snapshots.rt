@@ -1,7 +1,7 @@
 //! What stands as a script, and journals that begin anew.
 ghost use Rattle.std.specs.Prelude.{◌≡◌, ◌⊎◌, Some};
 ghost use Rattle.pathserve_c.specs.Handles.{IsHandle, state_of};
-ghost use Rattle.pathserve_c.specs.Saves.{HasForgotten, HasKept, IsForgotten, IsSnapped, IsSnapshot};
+ghost use Rattle.pathserve_c.specs.Saves.{HasForgotten, HasKept, IsForgotten, IsSnapped, IsSnapshot, IsUnkept};
 
 use crate::handles::Handle;
 use crate::states::State;
@@ -46,6 +46,34 @@ pub extern "C" fn pathserve_forget(alloc: Global, game: &mut Handle) -> u32
     let status = forget_in(alloc, &mut state);
     game.put(state);
     status
+}
+
+/// Lets go of the journal of a match, which keeps none from then on.
+#[unsafe(no_mangle)]
+pub extern "C" fn pathserve_keep_no_journal(alloc: Global, game: &mut Handle) -> u32
+    requires handle { IsHandle game.old }
+    ensures handle { IsHandle game.new }
+    ensures unkept { IsUnkept (state_of game.old) (state_of game.new) result }
+{
+    let Some(mut state) = game.take(alloc) else {
+        return CLOSED;
+    };
+    let status = keep_none_in(&mut state);
+    game.put(state);
+    status
+}
+
+/// Lets go of the journal of a match by structs; anything else has none.
+fn keep_none_in(state: &mut State) -> u32
+    ensures { IsUnkept (Some state.old) (Some state.new) result }
+{
+    match state {
+        State::Structs(structs) => {
+            structs.keep_no_journal();
+            DONE
+        }
+        State::Text(_) | State::View(_) | State::Finder(_) => OTHER,
+    }
 }
 
 /// Writes the snapshot of a view; of anything else nothing is written.

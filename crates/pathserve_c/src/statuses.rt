@@ -40,6 +40,9 @@ pub const SMALL: u32 = 22;
 /// More than a limit lets that was set.
 pub const PAST_LIMIT: u32 = 23;
 
+/// The match keeps no journal.
+pub const NO_JOURNAL: u32 = 24;
+
 /// The status that tells how far a match came.
 pub fn status_of(answer: Result<(), MatchFault>) -> u32
     ensures { result ≡ status_of answer }

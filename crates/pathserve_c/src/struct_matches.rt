@@ -1,10 +1,13 @@
 //! Matches by structs.
-ghost use Rattle.std.specs.Prelude.{◌≡◌, IfOk, None, OnErr, OnOk, Some, [], length};
+ghost use Rattle.std.specs.Prelude.{◌≡◌, IfOk, IsSome, List, None, OnErr, OnOk, Some, []};
+ghost use Rattle.posts.specs.declared.posts.Post.{Post};
 ghost use Rattle.posts.specs.declared.replies.TurnReplies.{TurnReplies};
-ghost use Rattle.script_text.specs.ReadsBack.{IsWithinLimits, ReadsAs};
+ghost use Rattle.script_text.specs.ReadsBack.{IsWithinLimits, ReadsAs, canon_script};
+ghost use Rattle.match_play.specs.Posted.{journal_of, standing_in, turns_of, without_journal};
+ghost use Rattle.match_play.specs.Replays.{script_of};
 ghost use Rattle.match_play.specs.Saved.{forgetting};
 ghost use Rattle.pathserve_c.specs.Saves.{OpensAs};
-ghost use Rattle.pathserve_c.specs.Structs.{Ends, IsNew, PostsAs, has_room, script_of, standing_in};
+ghost use Rattle.pathserve_c.specs.Structs.{Ends, IsNew, PostsAs, has_room};
 
 use crate::openings::OpenFault;
 use crate::statuses::PostFault;
@@ -32,9 +35,15 @@ pub struct StructMatch {
 impl Model for StructMatch {
     ghost use Rattle.std.specs.Prelude.{ℕ, ◌≡◌, ◌<◌, All};
     ghost use Rattle.posts.specs.declared.posts.Post.{Post};
+    ghost use Rattle.posts.specs.contracts.posts.Post.{the_row as post_row};
+    ghost use Rattle.posts.specs.contracts.replies.TurnReplies.{the_row as told_row};
+    ghost use Rattle.match_play.specs.contracts.posted.PostedMatch.{the_row as game_row};
     ghost use Rattle.pathserve_c.specs.Structs.{StructState};
+    ghost use Rattle.pathserve_c.specs.inner.Codes.{struct_code};
 
     ghost Value = { StructState };
+
+    ghost coded = { struct_code game_row.coded post_row.coded told_row.coded };
 
     ghost view = { λ m. record { game = m.game; posted = m.posted; told = m.told; most = m.most } };
 
@@ -131,6 +140,13 @@ impl StructMatch {
         self.game.forget(alloc)
     }
 
+    /// Lets go of the journal, and keeps none from then on (`without_journal`).
+    pub fn keep_no_journal(&mut self)
+        ensures { self.new ≡ record self.old { game = without_journal self.old.game } }
+    {
+        self.game.keep_no_journal();
+    }
+
     /// The replies of the turn that ended last.
     pub fn told(&self) -> &TurnReplies
         ensures { result.now ≡ self.now.told }
@@ -147,17 +163,20 @@ impl StructMatch {
     }
 
     /// How many turns have ended.
-    pub fn turns(&self) -> usize
-        ensures { result ≡ length self.now.game.journal }
+    pub fn turns(&self) -> u64
+        ensures { result ≡ turns_of self.now.game.past }
     {
-        self.game.journal().len()
+        self.game.turns()
     }
 
-    /// The match as a script: the canonical text of its map and of the turns that have ended.
-    pub fn script(&self, alloc: Global) -> Result<Bytes, NoMemory>
+    /// The match as a script: the canonical text of its map and of the turns that have ended. None exactly where it keeps no
+    /// journal.
+    pub fn script(&self, alloc: Global) -> Result<Option<Bytes>, NoMemory>
         ensures text { IfOk result (λ text. text ≡ script_of self.now.game) }
-        ensures reads_back { OnOk result (IsWithinLimits (script_of self.now.game)
-            → ReadsAs self.now.game.map self.now.game.journal (script_of self.now.game)) }
+        ensures reads_back { OnOk result ((journal : List (List (List Post))) → journal_of self.now.game.past ≡ Some journal
+            → IsWithinLimits (canon_script self.now.game.map journal)
+            → ReadsAs self.now.game.map journal (canon_script self.now.game.map journal)) }
+        ensures kept { OnErr result (IsSome (journal_of self.now.game.past)) }
     {
         self.game.script(alloc)
     }

@@ -2,7 +2,7 @@
 ghost use Rattle.std.specs.Prelude.{◌≡◌, ◌⊎◌, Some, length};
 ghost use Rattle.flat_posts.specs.Pages.{IsPage};
 ghost use Rattle.flat_posts.specs.Replies.{turn_replies, turn_waypoints};
-ghost use Rattle.pathserve_c.specs.Calls.{HasEnded, IsEnded, IsOpenedOn, IsPosted, IsPostedTo, IsScript, IsUnended, IsWritten};
+ghost use Rattle.pathserve_c.specs.Calls.{HasEnded, IsEnded, IsOpenedOn, IsPosted, IsPostedTo, IsScriptOf, IsUnended, IsWritten};
 ghost use Rattle.pathserve_c.specs.Handles.{IsHandle, state_of, told_in};
 ghost use Rattle.pathserve_c.specs.Structs.{has_room};
 ghost use Rattle.pathserve_c.specs.declared.states.State.TheVariants.{Structs};
@@ -10,7 +10,7 @@ ghost use Rattle.pathserve_c.specs.declared.states.State.TheVariants.{Structs};
 use crate::handles::Handle;
 use crate::states::State;
 use crate::statuses::{
-    BAD_VALUE, CLOSED, DONE, NO_MEMORY, OPEN, OTHER, PAST_LIMIT, SMALL, status_of_posts,
+    BAD_VALUE, CLOSED, DONE, NO_JOURNAL, NO_MEMORY, OPEN, OTHER, PAST_LIMIT, SMALL, status_of_posts,
 };
 use crate::struct_matches::StructMatch;
 use flat_posts::{
@@ -186,7 +186,7 @@ fn end_turn(alloc: Global, structs: &mut StructMatch, turn: &mut FlatTurn) -> u3
 {
     match structs.end_turn(alloc) {
         Ok(()) => {
-            *turn = FlatTurn::of(structs.turns() as u64, structs.told());
+            *turn = FlatTurn::of(structs.turns(), structs.told());
             DONE
         }
         Err(NoMemory) => NO_MEMORY,
@@ -205,10 +205,12 @@ fn write_journal_of(alloc: Global, state: &State, buffer: &mut [u8], whole: &mut
 
 /// Writes a match as a script, where the buffer holds it.
 fn write_journal(alloc: Global, structs: &StructMatch, buffer: &mut [u8], whole: &mut usize) -> u32
-    ensures { IsScript structs.now.game buffer.old buffer.new whole.old whole.new result }
+    ensures { IsScriptOf structs.now.game.map structs.now.game.past buffer.old buffer.new whole.old whole.new result }
 {
-    let Ok(text) = structs.script(alloc) else {
-        return NO_MEMORY;
+    let text = match structs.script(alloc) {
+        Ok(Some(text)) => text,
+        Ok(None) => return NO_JOURNAL,
+        Err(NoMemory) => return NO_MEMORY,
     };
     *whole = text.len();
     if buffer.len() < text.len() {

@@ -4,8 +4,8 @@ ghost use Rattle.pathserve_c.specs.Words.{fault_text, refusal_text, status_text,
 
 use crate::checks::{NOT_ZERO, WRONG_CALLER, WRONG_CLASS, WRONG_GOAL, WRONG_KIND};
 use crate::statuses::{
-    BAD_LINE, BAD_VALUE, CLOSED, DONE, ENDED, NO_MAP, NO_MEMORY, OPEN, OTHER, PAST_LIMIT, SMALL,
-    TOO_LONG,
+    BAD_LINE, BAD_VALUE, CLOSED, DONE, ENDED, NO_JOURNAL, NO_MAP, NO_MEMORY, OPEN, OTHER,
+    PAST_LIMIT, SMALL, TOO_LONG,
 };
 use flat_posts::refusals::{
     BAD_SHAPE, DUPLICATE_ID, GOAL_OUTSIDE, START_OUTSIDE, STORE_FULL, UNKNOWN_CLASS, UNKNOWN_ID,
@@ -79,6 +79,7 @@ fn status_text(status: u32) -> &'static [u8]
         BAD_VALUE => b"a value is no such kind, number or size, or an unused field is not 0",
         SMALL => b"the buffer is too small",
         PAST_LIMIT => b"more than the limit that was set",
+        NO_JOURNAL => b"the match keeps no journal",
         _ => b"no such status",
     }
 }

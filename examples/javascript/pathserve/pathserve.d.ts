@@ -5,7 +5,7 @@ export function fixed(navcells: number): number;
 
 export const Status: Readonly<{
   DONE: 0; BAD_LINE: 3; NO_MEMORY: 6; TOO_LONG: 7; CLOSED: 16; OPEN: 17; OTHER: 18; ENDED: 19; NO_MAP: 20; BAD_VALUE: 21; SMALL: 22;
-  PAST_LIMIT: 23
+  PAST_LIMIT: 23; NO_JOURNAL: 24
 }>;
 
 /** What is wrong with a post, as `check` says it. */
@@ -160,6 +160,8 @@ export class PostedMatch extends Match {
   limitPosts(most: number): void;
   /** The turns that have ended as the bytes of a script, which a TextMatch or the program answers alike. */
   journal(): Uint8Array;
+  /** Lets go of the journal, and keeps none from then on: `journal` throws NO_JOURNAL. `forget` begins one again. */
+  keepNoJournal(): void;
   /** Begins the journal anew, with one turn that adds what stands: the next turn is the second. */
   forget(): void;
   /** The digest of the turn that ended last; 0n where none has ended. */

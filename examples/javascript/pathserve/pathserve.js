@@ -23,7 +23,7 @@ export const fixed = (navcells) => Math.floor(navcells * NAVCELL);
 
 export const Status = Object.freeze({
   DONE: 0, BAD_LINE: 3, NO_MEMORY: 6, TOO_LONG: 7, CLOSED: 16, OPEN: 17, OTHER: 18, ENDED: 19, NO_MAP: 20, BAD_VALUE: 21, SMALL: 22,
-  PAST_LIMIT: 23
+  PAST_LIMIT: 23, NO_JOURNAL: 24
 });
 
 /** What is wrong with a post, as `check` says it. */
@@ -524,6 +524,11 @@ export class PostedMatch extends Match {
   /** The turns that have ended as the bytes of a script, which a TextMatch or the program answers alike. */
   journal() {
     return this.written("journal");
+  }
+
+  /** Lets go of the journal, and keeps none from then on. `forget` begins one again. */
+  keepNoJournal() {
+    must(this.call("keep_no_journal"));
   }
 
   /** Begins the journal anew, with one turn that adds what stands: the next turn is the second. */

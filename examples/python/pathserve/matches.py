@@ -203,6 +203,10 @@ class PostedMatch(_Match):
         must(status)
         return match
 
+    def keep_no_journal(self) -> None:
+        """Lets go of the journal, and keeps none from then on: `journal` raises NO_JOURNAL. `forget` begins one again."""
+        must(self._call("keep_no_journal"))
+
     def forget(self) -> None:
         """Begins the journal anew, with one turn that adds what stands: the next turn is the second."""
         must(self._call("forget"))

@@ -24,6 +24,7 @@ class Status(enum.IntEnum):
     BAD_VALUE = 21
     SMALL = 22
     PAST_LIMIT = 23
+    NO_JOURNAL = 24
 
 
 class Failed(Exception):
@@ -194,6 +195,7 @@ CALLS = {
     "open_script": (c_uint32, [MATCH, c_void_p, c_size_t, POINTER(c_uint64)]),
     "script_cause": (c_uint32, [c_void_p, c_size_t, POINTER(c_uint64), c_void_p, c_size_t, SIZE]),
     "snapshot": (c_uint32, [VIEW, c_void_p, c_size_t, SIZE]),
+    "keep_no_journal": (c_uint32, [MATCH]),
     "forget": (c_uint32, [MATCH]),
     "turn_digest": (c_uint32, [MATCH, POINTER(c_uint64)]),
     "view_digest": (c_uint32, [VIEW, POINTER(c_uint64)]),

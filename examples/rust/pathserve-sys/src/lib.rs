@@ -58,6 +58,7 @@ pub const NO_MAP: u32 = 20;
 pub const BAD_VALUE: u32 = 21;
 pub const SMALL: u32 = 22;
 pub const PAST_LIMIT: u32 = 23;
+pub const NO_JOURNAL: u32 = 24;
 
 /// A match: all zero before it is opened, written by the library alone, never copied.
 #[repr(C)]
@@ -290,6 +291,7 @@ extern "C" {
         whole: *mut usize,
     ) -> u32;
     pub fn pathserve_snapshot(view: *mut View, buffer: *mut u8, length: usize, whole: *mut usize) -> u32;
+    pub fn pathserve_keep_no_journal(its: *mut Match) -> u32;
     pub fn pathserve_forget(its: *mut Match) -> u32;
     pub fn pathserve_turn_digest(its: *mut Match, digest: *mut u64) -> u32;
     pub fn pathserve_view_digest(view: *mut View, digest: *mut u64) -> u32;

@@ -43,6 +43,8 @@ pub enum Error {
     BadValue,
     /// More posts, or more bytes of a line, than the limit that was set.
     PastLimit,
+    /// The match keeps no journal.
+    NoJournal,
     /// The library that was linked is of another version.
     OtherVersion,
 }
@@ -58,6 +60,7 @@ impl std::fmt::Display for Error {
             Error::NoMap => write!(out, "the map line has not come"),
             Error::BadValue => write!(out, "a value is past its limits"),
             Error::PastLimit => write!(out, "more than the limit that was set"),
+            Error::NoJournal => write!(out, "the match keeps no journal"),
             Error::OtherVersion => write!(out, "libpathserve is of another version"),
         }
     }
@@ -75,6 +78,7 @@ fn must(status: u32) -> Result<(), Error> {
         sys::NO_MAP => Err(Error::NoMap),
         sys::BAD_VALUE => Err(Error::BadValue),
         sys::PAST_LIMIT => Err(Error::PastLimit),
+        sys::NO_JOURNAL => Err(Error::NoJournal),
         other => unreachable!("a handle that an owner has opened is answered {other}"),
     }
 }

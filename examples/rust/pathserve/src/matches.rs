@@ -256,6 +256,12 @@ impl PostedMatch {
         }
     }
 
+    /// Lets go of the journal, and keeps none from then on. `forget` begins one again.
+    pub fn keep_no_journal(&mut self) -> Result<(), Error> {
+        // SAFETY: an exclusive handle.
+        must(unsafe { sys::pathserve_keep_no_journal(self.handle()) })
+    }
+
     /// Begins the journal anew, with one turn that adds what stands: the next turn is the second.
     pub fn forget(&mut self) -> Result<(), Error> {
         // SAFETY: an exclusive handle.

@@ -4,7 +4,7 @@ use Rattle.std.proofs.lemmas.List.{take_all}
 use Rattle.std.proofs.lemmas.Iterator.Adapters.{YieldsList-from_vec}
 use Rattle.std.proofs.lemmas.Iterator.Consumers.{YieldsList-turn, YieldsList-end}
 use Rattle.posts.specs.declared.posts.Post.{Post}
-use Rattle.match_play.specs.Posted.{PostedState}
+use Rattle.match_play.specs.Posted.{PostedState, Kept}
 use Rattle.match_play.specs.Replays.{IsLastTold}
 use Rattle.match_play.specs.Scripts.{IsTurnOn}
 use Rattle.match_play.proofs.Replaying.{game_next, turn_keeps}
@@ -45,6 +45,6 @@ returns c =
     let past : length c.args.journal ≤ length c.loop-posts.yielded = omega (arith, end.1) in
     let all = take_all (length c.loop-posts.yielded) c.args.journal past in
     record {
-      game = c.loop-posts.invariant.game ∙ ap (λ (j : List (List (List Post))). record { map = c.args.map.now; journal = j }) all;
+      game = c.loop-posts.invariant.game ∙ ap (λ (j : List (List (List Post))). record { map = c.args.map.now; past = Kept j }) all;
       told = subst (λ (j : List (List (List Post))). IsLastTold c.args.map.now j c.loop-posts.told) all c.loop-posts.invariant.told;
     }
