@@ -68,6 +68,13 @@ the same stands: yes
 turn 3 here, turn 2 there, in step: yes
 turn 2 here, turn 3 there, in step: yes
 """
+# the waypoints that examples/cpp/first.cpp prints
+FIRST = b"""\
+column 15, row 27
+column 37, row 27
+column 42, row 32
+column 50, row 32
+"""
 # what examples/cpp/game_loop.cpp tells: s the soldiers of a group, c a scout, # a wall that a player builds
 LOOP = b"""\
 the scout goes by 1,7 25,8
@@ -134,6 +141,12 @@ class Sources(unittest.TestCase):
             words = [CC, "-std=c11", "-Wall", "-Wextra", "-Werror", "-I", os.path.join(TOP, "include"), "-o", program]
             subprocess.run([*words, os.path.join(TOP, "tools", "tests", "library", "makers.c")], check=True)
             self.assertEqual(answers(program), (b"", 0))
+
+    def test_the_page_shows_the_first_program_in_cpp(self):
+        shown = re.findall(r"(?ms)^```cpp\n(.*?)^```", read("docs/C.md").decode())
+        text = read("examples/cpp/first.cpp").decode()
+        self.assertEqual(shown, [text[text.index("#include"):]])
+        self.assertLessEqual(text.count("\n"), 17)
 
     def test_the_header_for_cpp_has_each_call(self):
         declared = re.findall(r"(?m)^[a-z].*\b(pathserve_\w+)\(", read("include/pathserve.h").decode())
@@ -228,11 +241,11 @@ class Clients(unittest.TestCase):
         program, script = os.path.join(self.folder, "cpp"), read("examples/skirmish.script")
         for standard, archive in (("-std=c++17", ARCHIVES[0]), ("-std=c++20", ARCHIVES[-1])):
             told = []
-            for source in ("examples/cpp/game_loop.cpp", "tools/tests/library/owners.cpp"):
+            for source in ("examples/cpp/first.cpp", "examples/cpp/game_loop.cpp", "tools/tests/library/owners.cpp"):
                 words = ["c++", standard, *strict, *SANE, os.path.join(TOP, source), os.path.join(RELEASE, "lib", archive), "-o", program]
                 subprocess.run(words, check=True)
                 told.append(answers(program, script))
-            self.assertEqual(told, [(LOOP, 0), (read("examples/skirmish.answers"), 0)])
+            self.assertEqual(told, [(FIRST, 0), (LOOP, 0), (read("examples/skirmish.answers"), 0)])
 
     def test_each_allocation_is_refused_in_turn(self):
         program = built(self.folder, "tools/tests/library/refused.c", "libpathserve_noheap.a", SANE)
