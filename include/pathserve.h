@@ -32,6 +32,12 @@
  *   6. malloc, realloc and free belong to one allocator, or you define the functions at the end of this file. If several
  *      threads use handles, these may be called at the same time, and free what another thread has allocated.
  *
+ * OF EACH CALL, unless it says otherwise. Structs and buffers that you pass stay yours: the library copies what it keeps, and
+ * has no pointer to them once the call has returned. What a handle holds is the library's, and is freed by closing it. A call
+ * with handles is made by any thread that has them (promise 4); one without a handle by any thread at any time.
+ *
+ * Builds for x86-64 need a processor of x86-64-v2, so one since about 2010.
+ *
  * No function throws, jumps, prints, ends the program, starts a thread, or reads a clock, a file or the environment. There
  * is no global state. You free nothing of the library's except by closing a handle.
  */
@@ -58,12 +64,12 @@ extern "C" {
 
 #define PATHSERVE_STACK 65536u /* bytes: see promise 5 */
 
-/* PATHSERVE_VERSION and PATHSERVE_ANSWERS of the linked library. Compare them at startup. */
+/* PATHSERVE_VERSION and PATHSERVE_ANSWERS of the linked library. Compare them at startup. By any thread at any time. */
 uint32_t pathserve_version(void);
 uint32_t pathserve_answers(void);
 
 /* The size of a struct in the library, for callers that do not compile this header: `which` is a PATHSERVE_SIZE_ number.
- * 0 for any other number. */
+ * 0 for any other number. By any thread at any time. */
 size_t pathserve_size_of(uint32_t which);
 
 enum {
@@ -102,7 +108,8 @@ enum {
  * otherwise. */
 
 /* ---- texts: each call writes a text in ASCII, without a 0 behind it, as much of it as fits, and returns how many bytes the whole
- * text has. What lies behind it in the buffer stays. No text has more than PATHSERVE_TEXT bytes ---- */
+ * text has. What lies behind it in the buffer stays. No text has more than PATHSERVE_TEXT bytes. None is refused: an unknown
+ * number has a text that says so. By any thread at any time ---- */
 
 #define PATHSERVE_TEXT 96u
 
@@ -119,8 +126,8 @@ typedef struct pathserve_match { uint64_t live; void *at; } pathserve_match;   /
 typedef struct pathserve_view { uint64_t live; void *at; } pathserve_view;     /* a snapshot of the map, to query */
 typedef struct pathserve_finder { uint64_t live; void *at; } pathserve_finder; /* the memory of a thread's searches */
 
-/* Closes a match of either kind and frees its memory. Its views stay open, and can be closed later. Closing a closed match
- * does nothing. */
+/* Closes a match of either kind and frees its memory, by any thread that has it. Its views stay open, and can be closed later.
+ * Closing a closed match does nothing. */
 void pathserve_close(pathserve_match *match);
 
 /* ======== a match by text: what the program does by `replay`, or by a word that writes more after each path ======== */
@@ -135,8 +142,8 @@ enum {
 /* The words of the program for these, each at its number. */
 #define PATHSERVE_REPORT_WORDS "replay", "profile", "flow", "smooth"
 
-/* Opens a closed handle: a match whose script has no bytes yet. `report` is one of the numbers above.
- * DONE, OPEN, BAD_VALUE, NO_MEMORY. */
+/* Opens a closed handle: a match whose script has no bytes yet; pathserve_close frees it. `report` is one of the numbers above.
+ * DONE, OPEN, NO_MEMORY. BAD_VALUE: another number. */
 pathserve_status pathserve_open(pathserve_match *match, uint32_t report);
 
 /* Feeds the next bytes of the script, cut anywhere. The text of each turn whose end line has arrived then waits to be taken.
@@ -204,15 +211,16 @@ typedef struct pathserve_rect { uint16_t i0, j0, i1, j1, mask, zero; } pathserve
 
 /* Opens a closed handle: a match on this map, before its first turn. There are 1 to 16 classes with distinct names, numbered
  * by their places from 0; the rectangles lie inside the map. The match keeps its posts for its journal, some 150 bytes each,
- * until it is closed or pathserve_keep_no_journal is called (docs/C.md, "Memory"); a match by text keeps none.
- * DONE, OPEN, BAD_VALUE, NO_MEMORY. */
+ * until it is closed or pathserve_keep_no_journal is called (docs/C.md, "Memory"); a match by text keeps none. The arrays are
+ * copied, and pathserve_close frees it all.
+ * DONE, OPEN, NO_MEMORY. BAD_VALUE: a size, a number, a name, a clearance or a rectangle is not as this file says it is. */
 pathserve_status pathserve_open_map(pathserve_match *match, const pathserve_map *map, const pathserve_class *classes,
                                     size_t class_count, const pathserve_rect *base, size_t base_count);
 
 /* The same with the terrain as a grid in place of rectangles: a mask for each cell, that of cell (i, j) at place j * width + i, so
  * row by row from the south. Bit k of it makes the cell impassable for class k, for good. `count` is width * height. The match
  * answers like one that was opened with rectangles that block the same cells; its map has a rectangle for each run of cells of
- * a row with one mask that is not 0. DONE, OPEN, BAD_VALUE, NO_MEMORY. */
+ * a row with one mask that is not 0. DONE, OPEN, NO_MEMORY. BAD_VALUE: as above, or another count. */
 pathserve_status pathserve_open_grid(pathserve_match *match, const pathserve_map *map, const pathserve_class *classes,
                                      size_t class_count, const uint16_t *masks, size_t count);
 
@@ -373,10 +381,10 @@ PATHSERVE_MAKER pathserve_post pathserve_make_path_to_obstruction(uint8_t caller
     return post;
 }
 
-/* Adds posts to the turn, after those that it has. The edits of a turn are made caller by caller from 0 on, and post by post:
- * never in the order in which two callers posted. DONE: all were taken. BAD_VALUE: an unknown kind, goal, caller or class, or
- * an unused field that is not 0; none was taken, and pathserve_check says which. A value past any other limit is taken, and
- * its reply is a refusal.
+/* Adds copies of posts to the turn, after those that it has. The edits of a turn are made caller by caller from 0 on, and post
+ * by post: never in the order in which two callers posted. DONE: all were taken. BAD_VALUE: an unknown kind, goal, caller
+ * or class, or an unused field that is not 0; none was taken, and pathserve_check says which. A value past any other limit
+ * is taken, and its reply is a refusal.
  * PAST_LIMIT: with them more posts would wait than pathserve_limit_posts lets; none was taken. NO_MEMORY: none was taken.
  * CLOSED, OTHER. */
 pathserve_status pathserve_post_all(pathserve_match *match, const pathserve_post *posts, size_t count);
@@ -473,6 +481,7 @@ pathserve_status pathserve_journal(pathserve_match *match, uint8_t *buffer, size
 
 /* Opens a closed view: a snapshot of the map after the turns of a match, of either kind, that have ended. The match goes on,
  * and the view stays as it is. Once the first turn has ended this takes a few small allocations and copies nothing of the map.
+ * The call uses the match; from then on the two serve different threads. pathserve_view_close frees the view.
  * DONE, CLOSED (the match), OPEN (the view), NO_MAP, NO_MEMORY. */
 pathserve_status pathserve_view_of(pathserve_match *match, pathserve_view *view);
 
@@ -480,7 +489,8 @@ pathserve_status pathserve_view_of(pathserve_match *match, pathserve_view *view)
  * and hands `view` over. DONE, CLOSED (`from`), OPEN (`view`), NO_MEMORY. */
 pathserve_status pathserve_view_again(pathserve_view *from, pathserve_view *view);
 
-/* Closes a view, before or after its match. Closing a closed view does nothing. */
+/* Closes a view, before or after its match, and frees what it alone held, while other threads use the match and its other views.
+ * Closing a closed view does nothing. */
 void pathserve_view_close(pathserve_view *view);
 
 /* How many columns and rows the map has, as `i` and `j`. Returns 1 and writes them; or returns 0 and writes nothing, for a closed
@@ -537,7 +547,7 @@ uint32_t pathserve_reachable(pathserve_view *view, const pathserve_post *post, p
  * keeps the memory of its searches, some 16 MB at most, until it is closed. DONE, OPEN, NO_MEMORY. */
 pathserve_status pathserve_finder_open(pathserve_finder *finder);
 
-/* Closes a finder, before or after the views that it served. Closing a closed finder does nothing. */
+/* Closes a finder, before or after the views that it served, and frees its memory. Closing a closed finder does nothing. */
 void pathserve_finder_close(pathserve_finder *finder);
 
 /* Does what pathserve_find does, with the same statuses and the same answers, whatever the finder served before.
@@ -556,11 +566,11 @@ pathserve_status pathserve_find_with(pathserve_finder *finder, pathserve_view *v
 pathserve_status pathserve_find_within(pathserve_finder *finder, pathserve_view *view, const pathserve_post *post, uint64_t most,
                                        pathserve_reply *reply, pathserve_cell *waypoints, size_t count);
 
-/* What pathserve_find_with does for many posts of the kinds PATHSERVE_PATH and PATHSERVE_REGION, each answered as if alone. Writes a reply to each
- * post, in the order of the posts, and the waypoints of all paths one after another: as many of either as fit, so let
- * `reply_count` be `post_count`. In a reply, `post` is the place of its post, from 0, and `first_waypoint` the place of the
- * path's first waypoint among all. `first_waypoint` plus `waypoints` of the last reply that is a path is how many there are: if
- * that is more than the buffer holds, ask for the paths past it again.
+/* What pathserve_find_with does for many posts of the kinds PATHSERVE_PATH and PATHSERVE_REGION, each answered as if alone.
+ * Writes a reply to each post, in the order of the posts, and the waypoints of all paths one after another: as many of
+ * either as fit, so let `reply_count` be `post_count`. In a reply, `post` is the place of its post, from 0, and
+ * `first_waypoint` the place of the path's first waypoint among all. `first_waypoint` plus `waypoints` of the last reply
+ * that is a path is how many there are: if that is more than the buffer holds, ask for the paths past it again.
  * DONE. BAD_VALUE: pathserve_find would refuse one of the posts so. NO_MEMORY, CLOSED, OTHER as above. Only with DONE is
  * anything written. */
 pathserve_status pathserve_find_all(pathserve_finder *finder, pathserve_view *view, const pathserve_post *posts,
@@ -630,16 +640,17 @@ pathserve_status pathserve_open_script(pathserve_match *match, const uint8_t *sc
 /* Says at which line a script is bad and why, in the words that pathserve_cause has for a match by text. It reads the script, and
  * plays nothing. `bad_line` gets the number of the line, from 1, and `whole` the size of the text: both 0 for a script that stops
  * at no bad line, so also for one that is TOO_LONG. DONE: the text is at the start of the buffer. SMALL: it does not fit, and
- * nothing was written to the buffer; so a first call with (NULL, 0) asks for the size. NO_MEMORY: nothing was written. */
+ * nothing was written to the buffer; so a first call with (NULL, 0) asks for the size. NO_MEMORY: nothing was written. By any
+ * thread at any time. */
 pathserve_status pathserve_script_cause(const uint8_t *script, size_t length, uint64_t *bad_line,
                                         uint8_t *buffer, size_t buffer_length, size_t *whole);
 
-/* Writes what a view shows as a script in canonical form: the map, in version 3, and one turn in which caller 0 adds all current
- * obstructions, by rising number. A match that is opened from it, by structs or by text, has the same map and the same
- * obstructions, and answers further turns as the match of the view: their digests are the same, and its turns are numbered from
- * 2 on. `whole` gets its size in bytes. DONE: it is at the start of the buffer. SMALL: it does not fit, and nothing was written
- * to the buffer; so a first call with (NULL, 0) asks for the size. NO_MEMORY, CLOSED, and OTHER for a match: neither was
- * written. */
+/* Writes what a view shows as a script in canonical form: the map, in version 3, and one turn in which caller 0 adds all
+ * current obstructions, by rising number. A match that is opened from it, by structs or by text, has the same map and the
+ * same obstructions, and answers further turns as the match of the view: their digests are the same, and its turns are
+ * numbered from 2 on. A view of its own lets another thread write it while the match goes on. `whole` gets its size in
+ * bytes. DONE: it is at the start of the buffer. SMALL: it does not fit, and nothing was written to the buffer; so a first
+ * call with (NULL, 0) asks for the size. NO_MEMORY, CLOSED, and OTHER for a match: neither was written. */
 pathserve_status pathserve_snapshot(pathserve_view *view, uint8_t *buffer, size_t length, size_t *whole);
 
 /* Lets go of the journal of a match by structs and frees what it held: from then on posts are not kept once their turn has ended,

@@ -13,25 +13,32 @@ using System.Text;
 
 namespace Pathserve
 {
+    /// <summary>What a call ends with, as pathserve.h says it: all but `Done` is thrown.</summary>
     public enum Status : uint
     {
         Done = 0, BadLine = 3, NoMemory = 6, TooLong = 7, Closed = 16, Open = 17, Other = 18, Ended = 19, NoMap = 20, BadValue = 21,
         Small = 22, PastLimit = 23, NoJournal = 24
     }
 
+    /// <summary>What a match by text tells: the answers, and more of each path.</summary>
     public enum Report : uint { Replay = 0, Profile = 1, Flow = 2, Smooth = 3 }
 
+    /// <summary>What a post does or asks.</summary>
     public enum PostKind : byte { AddUnit = 1, AddSquare = 2, Remove = 3, Move = 4, Path = 5, Region = 6 }
 
+    /// <summary>Where a path may end. `None` in other posts.</summary>
     public enum GoalKind : byte { None = 0, Point = 1, Circle = 2, NotCircle = 3, Square = 4, NotSquare = 5, Obstruction = 6 }
 
+    /// <summary>What is wrong with a post that a match refuses to take.</summary>
     public enum PostFault : uint { None = 0, WrongKind = 1, WrongCaller = 2, WrongClass = 3, WrongGoal = 4, NotZero = 5 }
 
+    /// <summary>What a post came to.</summary>
     public enum ReplyKind : byte
     {
         Added = 1, Removed = 2, Moved = 3, Refused = 4, Nowhere = 5, AtGoal = 6, NearGoal = 7, InRegion = 8, TooFar = 9
     }
 
+    /// <summary>Why a post was refused. `None` in other replies.</summary>
     public enum Refusal : byte
     {
         None = 0, BadShape = 1, DuplicateId = 2, StoreFull = 3, UnknownId = 4, UnknownClass = 5, StartOutside = 6, GoalOutside = 7
@@ -40,6 +47,7 @@ namespace Pathserve
     /// <summary>A call that ended with another status than DONE.</summary>
     public sealed class PathserveException : Exception
     {
+        /// <summary>How the call ended.</summary>
         public readonly Status Status;
 
         /// <summary>The number of the line of a script that opens no match, or 0.</summary>
@@ -48,6 +56,7 @@ namespace Pathserve
         /// <summary>Why that line is bad, as the program says it. Empty where none is.</summary>
         public readonly string Cause;
 
+        /// <summary>Of a status, and of the line of a script and its cause where there are such.</summary>
         public PathserveException(Status status, ulong line = 0, string cause = "")
             : base("pathserve: " + status + (line == 0 ? "" : " at line " + line) + (cause == "" ? "" : ": " + cause))
         {
@@ -63,16 +72,21 @@ namespace Pathserve
     [StructLayout(LayoutKind.Sequential)]
     public struct Cell
     {
+        /// <summary>The column and the row.</summary>
         public ushort I, J;
 
+        /// <summary>The cell of a column and a row, each from 0 to 65,535: another throws OverflowException.</summary>
         public Cell(int i, int j) { I = checked((ushort)i); J = checked((ushort)j); }
 
+        /// <summary>As "column,row".</summary>
         public override string ToString() { return I + "," + J; }
     }
 
+    /// <summary>A map: its columns and rows, 1 to 2048 each, and how many callers it has, 1 to 64.</summary>
     [StructLayout(LayoutKind.Sequential)]
     public struct Map
     {
+        /// <summary>How many columns, rows and callers.</summary>
         public uint Width, Height, Callers;
     }
 
@@ -82,8 +96,11 @@ namespace Pathserve
     {
         [MarshalAs(UnmanagedType.ByValArray, SizeConst = 64)] private byte[] name;
         private uint nameLength;
+        /// <summary>How far its units keep from obstructions: 65,536 is the side of a navcell.</summary>
         public int Clearance;
 
+        /// <summary>A name of 1 to 64 ASCII letters, digits, `-` or `_`, and a clearance of at most 64 navcells. A match refuses
+        /// others.</summary>
         public PassabilityClass(string name, int clearance)
         {
             byte[] letters = Encoding.UTF8.GetBytes(name);
@@ -98,11 +115,15 @@ namespace Pathserve
     [StructLayout(LayoutKind.Sequential)]
     public struct Rect
     {
+        /// <summary>Its first and last column and row, and its classes: bit k is for class k.</summary>
         public ushort I0, J0, I1, J1, Mask;
         private ushort zero;
     }
 
-    /// <summary>A post. Fields that its kind does not use stay 0.</summary>
+    /// <summary>A post: what it does or asks (`Kind`), who posts it (`Caller`, from 0), and the fields that its kind uses; the others
+    /// stay 0. `ClassNumber` of a request counts from 0. Bit k of `Mask` lets an obstruction block class k. `Id` is an obstruction's
+    /// number, shared by all callers. (X, Z) is a middle or a start, (GoalX, GoalZ) the middle of a goal, (Ux, Uz) the unit vector
+    /// along a rectangle, Hw and Hh its half sides, `Radius` a half side, a radius or a distance: 65,536 is a navcell's side.</summary>
     [StructLayout(LayoutKind.Sequential)]
     public struct Post
     {
@@ -144,8 +165,10 @@ namespace Pathserve
             return post;
         }
 
+        /// <summary>Removes the obstruction under a number.</summary>
         public static Post Remove(int caller, uint id) { return new Post { Kind = PostKind.Remove, Caller = CallerOf(caller), Id = id }; }
 
+        /// <summary>Moves the obstruction under a number, so that its middle is (x, z).</summary>
         public static Post Move(int caller, uint id, int x, int z)
         {
             return new Post { Kind = PostKind.Move, Caller = CallerOf(caller), Id = id, X = x, Z = z };
@@ -209,7 +232,11 @@ namespace Pathserve
     [StructLayout(LayoutKind.Sequential)]
     public struct Turn
     {
+        /// <summary>Its number, from 1; the regions, edges between them and areas of all classes; its replies, and their
+        /// waypoints.</summary>
         public ulong Number, Regions, Edges, Areas, Replies, Waypoints;
+
+        /// <summary>For how many pairs of class and chunk a cell changed: 0 if no cell did.</summary>
         public uint Relabelled;
         private uint zero;
     }
@@ -218,17 +245,34 @@ namespace Pathserve
     [StructLayout(LayoutKind.Sequential)]
     public struct Reply
     {
+        /// <summary>What the post came to: says which fields are set.</summary>
         public ReplyKind Kind;
+
+        /// <summary>Whose post it was.</summary>
         public byte Caller;
+
+        /// <summary>Why it was refused.</summary>
         public Refusal Why;
         private byte zero;
+
+        /// <summary>The post's place among those of its caller in the turn, from 0, and the number of the obstruction.</summary>
         public uint Post, Id;
+
+        /// <summary>Where a path starts and ends, and the column and row of a chunk.</summary>
         public Cell Start, End, Chunk;
+
+        /// <summary>The number of a region in its chunk, from 1. 0 for an impassable cell.</summary>
         public ushort Region;
         private ushort zeroToo;
+
+        /// <summary>The number of an area, from 1. 0 for an impassable cell.</summary>
         public uint Area;
+
+        /// <summary>How many waypoints a path has, the place of the first among all of the turn, and its cost: 65,536 for a straight
+        /// step, 92,682 for a diagonal one.</summary>
         public ulong Waypoints, FirstWaypoint, Cost;
 
+        /// <summary>Whether it is a path, to its goal or near it.</summary>
         public bool IsPath { get { return Kind == ReplyKind.AtGoal || Kind == ReplyKind.NearGoal; } }
     }
 
@@ -361,24 +405,28 @@ namespace Pathserve
     /// <summary>What the library says of its numbers, and its version.</summary>
     public static class Texts
     {
+        /// <summary>What a status means.</summary>
         public static string Of(Status status)
         {
             byte[] text = new byte[Native.Text];
             return Native.Said(text, Native.pathserve_status_text(status, text, Native.Count(text)));
         }
 
+        /// <summary>The word of the answers for why a post was refused.</summary>
         public static string Of(Refusal why)
         {
             byte[] text = new byte[Native.Text];
             return Native.Said(text, Native.pathserve_refusal_text((uint)why, text, Native.Count(text)));
         }
 
+        /// <summary>What is wrong with a post.</summary>
         public static string Of(PostFault why)
         {
             byte[] text = new byte[Native.Text];
             return Native.Said(text, Native.pathserve_fault_text(why, text, Native.Count(text)));
         }
 
+        /// <summary>The version of the library, as "0.1.0".</summary>
         public static string Version()
         {
             byte[] text = new byte[Native.Text];
@@ -403,6 +451,8 @@ namespace Pathserve
             return view;
         }
 
+        /// <summary>Closes it and frees its memory. Its views stay open. A second call does nothing; any other then throws
+        /// `Closed`.</summary>
         public void Dispose() { Native.pathserve_close(ref handle); }
     }
 
@@ -513,6 +563,7 @@ namespace Pathserve
     /// <summary>A match by the text of its script, as the program plays it.</summary>
     public sealed class TextMatch : Match
     {
+        /// <summary>A match whose script has no bytes yet.</summary>
         public TextMatch(Report report = Report.Replay) { Native.Must(Native.pathserve_open(ref handle, report)); }
 
         /// <summary>Feeds the next bytes, cut anywhere. What is told waits, also where this throws BadLine.</summary>
@@ -582,6 +633,7 @@ namespace Pathserve
             return digest;
         }
 
+        /// <summary>Whether a cell is passable. False off the map, for an unknown class, and in a view that was disposed.</summary>
         public bool Passable(int classNumber, int i, int j)
         {
             return Native.pathserve_passable(ref handle, (uint)classNumber, (uint)i, (uint)j) != 0;
@@ -686,12 +738,14 @@ namespace Pathserve
             return true;
         }
 
+        /// <summary>Closes it, before or after its match. A second call does nothing.</summary>
         public void Dispose() { Native.pathserve_view_close(ref handle); }
     }
 
     /// <summary>The steps of a flow field.</summary>
     public static class Steps
     {
+        /// <summary>The step of a cell from which no walk leads to the goal, and that of a cell in which a unit is there.</summary>
         public const byte None = 0, Stays = 9;
 
         /// <summary>How far each step leads, by its number: none, N, E, S, W, NE, SE, SW, NW, and where a unit stays.</summary>
@@ -704,6 +758,7 @@ namespace Pathserve
     {
         private Handle handle;
 
+        /// <summary>A finder that has no memory yet: it keeps what its searches take, 16 MB at most.</summary>
         public Finder()
         {
             Native.Check();
@@ -755,6 +810,7 @@ namespace Pathserve
             } while (whole > (ulong)waypoints.Length);
         }
 
+        /// <summary>Closes it and frees its memory, before or after the views that it served. A second call does nothing.</summary>
         public void Dispose() { Native.pathserve_finder_close(ref handle); }
     }
 }

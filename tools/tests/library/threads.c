@@ -1,11 +1,11 @@
-/* Four threads look at what stands while the match goes on: each has a view and a finder of its own.
+/* Eight threads look at what stands while the match goes on: each has a view and a finder of its own.
  * Prints nothing where all agree. */
 #include <pthread.h>
 #include <stdio.h>
 #include <string.h>
 #include <pathserve.h>
 
-enum { THREADS = 4, ROUNDS = 200 };
+enum { THREADS = 8, ROUNDS = 200 };
 
 static const pathserve_post ask = {.kind = PATHSERVE_PATH, .goal = PATHSERVE_POINT, .x = 98304, .z = 98304, .goal_x = 4161536,
                                    .goal_z = 4161536};
