@@ -209,11 +209,11 @@ typedef struct pathserve_class { uint8_t name[64]; uint32_t name_length; pathser
  * k. `zero` is 0, as is every field of that name. */
 typedef struct pathserve_rect { uint16_t i0, j0, i1, j1, mask, zero; } pathserve_rect;
 
-/* Opens a closed handle: a match on this map, before its first turn. There are 1 to 16 classes with distinct names, numbered
+/* Opens a closed handle: a match on this map, before its first turn. It copies the arrays. BAD_VALUE: a size, a number, a name,
+ * a clearance or a rectangle is not as this file says it is. There are 1 to 16 classes with distinct names, numbered
  * by their places from 0; the rectangles lie inside the map. The match keeps its posts for its journal, some 150 bytes each,
- * until it is closed or pathserve_keep_no_journal is called (docs/C.md, "Memory"); a match by text keeps none. The arrays are
- * copied, and pathserve_close frees it all.
- * DONE, OPEN, NO_MEMORY. BAD_VALUE: a size, a number, a name, a clearance or a rectangle is not as this file says it is. */
+ * until it is closed or pathserve_keep_no_journal is called (docs/C.md, "Memory"); a match by text keeps none.
+ * DONE, OPEN, BAD_VALUE, NO_MEMORY. */
 pathserve_status pathserve_open_map(pathserve_match *match, const pathserve_map *map, const pathserve_class *classes,
                                     size_t class_count, const pathserve_rect *base, size_t base_count);
 
