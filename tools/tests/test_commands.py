@@ -8,7 +8,7 @@ import unittest
 
 from places import PROGRAM, TOP, needs_program, read
 
-BENCH = ["bench/beside_0ad.py", "bench/broken", "bench/hostile", "bench/limits", "bench/load", "bench/measure.py", "bench/refused", "bench/times.py"]
+BENCH = [f"bench/{it}" for it in ("beside_0ad.py", "broken", "game_loop", "hostile", "limits", "load", "measure.py", "random_calls", "refused", "times.py")]
 MAKERS = [f"tools/{it}.py" for it in ("crates", "decisions", "definitions", "format_tests", "forms", "gate_minutes", "layers", "library_module", "library_targets", "packages", "reading_list", "search_pictures", "speed_plots", "test_index", "theorems", "unproved_tests")]
 OTHERS = ["digests.py", "from_0ad.py", "from_movingai.py", "from_picture.py", "rename.py", "replays.py", "test_lines.py", "unproved_build.py", "view.py"]
 TOOLS = [f"tools/{it}" for it in OTHERS] + ["examples/check.py", "examples/client.py", "examples/two_callers.py", "examples/python/skirmish.py"]
