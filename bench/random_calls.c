@@ -236,9 +236,20 @@ static void open_twin(void) {
     drop(&script);
 }
 
+/* All but the journal is as before, until the twin forgets and begins one again. */
+static void keep_no_journal(void) {
+    uint64_t one = 0, other = 1;
+    size_t whole = 777;
+    HOLDS(pathserve_turn_digest(&now.twin, &one) == PATHSERVE_DONE);
+    HOLDS(pathserve_keep_no_journal(&now.twin) == PATHSERVE_DONE);
+    HOLDS(pathserve_journal(&now.twin, NULL, 0, &whole) == PATHSERVE_NO_JOURNAL && whole == 777);
+    HOLDS(pathserve_turn_digest(&now.twin, &other) == PATHSERVE_DONE && one == other);
+}
+
 static void save(void) {
     uint64_t one = 0, other = 1;
     if (drawn(3) == 0) open_twin();
+    if (now.twin.live != 0 && drawn(3) == 0) keep_no_journal();
     if (now.twin.live != 0 && drawn(3) == 0) {
         text saved = {0};
         HOLDS(pathserve_turn_digest(&now.twin, &one) == PATHSERVE_DONE);

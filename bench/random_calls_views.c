@@ -279,6 +279,7 @@ static void ask_badly(void) {
     HOLDS(pathserve_feed(&now.match, NULL, 0, &used) == PATHSERVE_OTHER && used == 0 && pathserve_finish(&now.match) == PATHSERVE_OTHER);
     HOLDS(pathserve_limit_line(&now.match, 0) == PATHSERVE_OTHER && pathserve_limit_posts(&now.texts[2], 0) == PATHSERVE_OTHER);
     HOLDS(pathserve_journal(&now.texts[3], NULL, 0, &used) == PATHSERVE_OTHER && used == 0 && pathserve_forget(&now.texts[0]) == PATHSERVE_OTHER);
+    HOLDS(pathserve_keep_no_journal(&now.texts[0]) == PATHSERVE_OTHER && pathserve_keep_no_journal(&closed) == PATHSERVE_CLOSED);
     HOLDS(pathserve_turn_digest(&now.texts[0], &number) == PATHSERVE_OTHER && pathserve_turn_digest(&closed, &number) == PATHSERVE_CLOSED);
     HOLDS(pathserve_view_of(&now.match, &now.view) == PATHSERVE_OPEN && pathserve_view_again(&none, &none) == PATHSERVE_CLOSED);
     HOLDS(pathserve_finder_open(&now.finder) == PATHSERVE_OPEN && pathserve_waiting(&now.match) == 0);
