@@ -1,12 +1,15 @@
 /* A game of 20 ticks a second on libpathserve: 300 units on 512 by 512 navcells among buildings that come and go. 200 walk in
  * four groups, each by one flow field; 100 walk alone by smoothed waypoints that a finder found. A turn ends in each tick.
- * bench/game_loop counts what each call of it costs. */
+ * bench/game_loop counts what each call of it costs. Each field, line of sight and smoothing is done by own_ways.h too, and must
+ * come out alike, but for the smoothing, which keeps more. */
+#include "own_ways.h"
 #include <pathserve.h>
 #include <stdio.h>
 #include <stdlib.h>
+#include <string.h>
 
 enum { SIDE = 512, GROUPS = 4, A_GROUP = 50, ALONE = 100, BUILDINGS = 300, ORDERS = 2, MOST = 256 };
-enum { INFANTRY = 0, SIEGE = 1, SPEED = PATHSERVE_NAVCELL / 4, STATUS_OF_A_BUG = 99 };
+enum { INFANTRY = 0, SIEGE = 1, SPEED = PATHSERVE_NAVCELL / 4, CLEARANCE = PATHSERVE_NAVCELL * 3 / 4, STATUS_OF_A_BUG = 99 };
 
 typedef struct { pathserve_fixed x, z; } point;
 
@@ -21,12 +24,19 @@ static pathserve_finder finder;
 static group groups[GROUPS];
 static walker walkers[ALONE];
 static uint32_t newest = 0, oldest = 1;
-static unsigned long fields = 0, paths = 0, cut = 0;
+static unsigned long fields = 0, paths = 0, cut = 0, kept_here = 0, kept_by_own = 0;
+static pathserve_post *buildings; /* those that were added, by their numbers */
 
 static void must(pathserve_status status) {
     if (status == PATHSERVE_DONE) return;
     fprintf(stderr, "game_loop: status %u\n", status);
     exit((int)status);
+}
+
+static void same(int is_same, const char *what) {
+    if (is_same) return;
+    fprintf(stderr, "game_loop: the game has another %s\n", what);
+    exit(STATUS_OF_A_BUG);
 }
 
 /* ---- numbers ---- */
@@ -77,6 +87,13 @@ static point toward(point from, point to) {
 static pathserve_post added(uint32_t id) {
     point at = somewhere();
     pathserve_post post = {.kind = PATHSERVE_ADD_UNIT, .id = id, .mask = 3, .x = at.x, .z = at.z, .radius = 3 * PATHSERVE_NAVCELL};
+    own_paint(&post, CLEARANCE, 1);
+    return buildings[id] = post;
+}
+
+static pathserve_post removed(uint32_t id) {
+    own_paint(&buildings[id], CLEARANCE, -1);
+    pathserve_post post = {.kind = PATHSERVE_REMOVE, .id = id};
     return post;
 }
 
@@ -89,8 +106,12 @@ static pathserve_post order(point from, point to, uint8_t class_number) {
 /* ---- groups ---- */
 
 static void lead(group *its) {
+    static uint8_t own[SIDE * SIDE];
     pathserve_reply reply;
     must(pathserve_field(&view, &its->order, &reply, its->steps, SIDE * SIDE, NULL, 0));
+    own_field(&its->order, &reply, own);
+    /* the library's has no steps in areas from which the group does not come */
+    for (int k = 0; k < SIDE * SIDE; k++) same(its->steps[k] == PATHSERVE_NO_STEP || its->steps[k] == own[k], "field");
     its->is_old = 0;
     fields++;
 }
@@ -131,20 +152,27 @@ static void walk_group(group *its) {
 static void find(walker *its, point to) {
     pathserve_post post = order(its->at, to, INFANTRY);
     pathserve_reply reply;
+    pathserve_cell own[MOST];
     size_t kept = 0;
     must(pathserve_find_with(&finder, &view, &post, &reply, its->ahead, MOST));
     its->next = its->count = 0;
     paths++;
     if (reply.kind != PATHSERVE_AT_GOAL && reply.kind != PATHSERVE_NEAR_GOAL) return;
     if (reply.waypoints > MOST) exit(STATUS_OF_A_BUG);
+    memcpy(own, its->ahead, sizeof own);
     must(pathserve_smooth(&view, INFANTRY, &reply.start, its->ahead, reply.waypoints, &kept));
     its->count = kept;
+    kept_here += kept;
+    kept_by_own += own_smooth(reply.start, own, reply.waypoints);
 }
 
 /* Whether the line to the next waypoint is still clear. */
 static int is_clear(const walker *its) {
     pathserve_cell from = cell_of(its->at);
-    return its->next == its->count || pathserve_clear(&view, INFANTRY, &from, &its->ahead[its->next]) != 0;
+    if (its->next == its->count) return 1;
+    uint32_t is = pathserve_clear(&view, INFANTRY, &from, &its->ahead[its->next]);
+    same((int)is == own_clear(from, its->ahead[its->next]), "line of sight");
+    return is != 0;
 }
 
 static void walk_alone(walker *its) {
@@ -179,7 +207,7 @@ static void orders(int tick) {
     pathserve_post posts[ORDERS + 2];
     size_t count = 0;
     if (tick % 10 == 0) posts[count++] = added(++newest);
-    if (tick % 10 == 5) posts[count++] = (pathserve_post){.kind = PATHSERVE_REMOVE, .id = oldest++};
+    if (tick % 10 == 5) posts[count++] = removed(oldest++);
     for (int k = 0; k < ORDERS; k++) posts[count++] = order(walkers[drawn(ALONE)].at, somewhere(), SIEGE);
     must(pathserve_post_all(&match, posts, count));
 }
@@ -211,7 +239,7 @@ static void tick(int number) {
 static void begin(void) {
     static pathserve_post posts[BUILDINGS];
     const pathserve_map map = {SIDE, SIDE, 1};
-    const pathserve_class classes[2] = {{"infantry", 8, PATHSERVE_NAVCELL * 3 / 4}, {"siege", 5, PATHSERVE_NAVCELL * 5 / 2}};
+    const pathserve_class classes[2] = {{"infantry", 8, CLEARANCE}, {"siege", 5, PATHSERVE_NAVCELL * 5 / 2}};
     pathserve_turn ended;
     for (int k = 0; k < BUILDINGS; k++) posts[k] = added(++newest);
     must(pathserve_open_map(&match, &map, classes, 2, NULL, 0));
@@ -227,10 +255,14 @@ static void begin(void) {
 }
 
 int main(int count, char **words) {
-    int ticks = count > 1 ? atoi(words[1]) : 400;
+    int ticks = count > 1 ? atoi(words[1]) : 200;
+    buildings = calloc((size_t)BUILDINGS + (size_t)ticks + 1, sizeof *buildings);
     begin();
     for (int number = 0; number < ticks; number++) tick(number);
+    same(own_is_seen(&view), "map");
     printf("%d ticks, %lu fields, %lu paths alone, of which %lu were cut\n", ticks, fields, paths, cut);
+    printf("of their waypoints smoothing keeps %lu, the game's own %lu\n", kept_here, kept_by_own);
+    free(buildings);
     pathserve_finder_close(&finder);
     pathserve_view_close(&view);
     pathserve_close(&match);
