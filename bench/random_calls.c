@@ -63,6 +63,15 @@ static void open_bad_maps(void) {
     HOLDS(pathserve_open(&none, 4 + drawn(1 << 20)) == PATHSERVE_BAD_VALUE && none.live == 0);
 }
 
+/* A match of which no turn has ended has nothing to forget. */
+static void forget_nothing(void) {
+    text journal = {0};
+    get_journal(&now.match, &journal);
+    HOLDS(pathserve_forget(&now.match) == PATHSERVE_DONE);
+    same_journal(&now.match, &journal);
+    drop(&journal);
+}
+
 static void open_match(void) {
     uint16_t *masks = masks_of_map();
     size_t count = (size_t)now.map.width * now.map.height;
@@ -74,6 +83,7 @@ static void open_match(void) {
     for (uint32_t k = 0; k < REPORTS; k++) HOLDS(pathserve_open(&now.texts[k], k) == PATHSERVE_DONE);
     say_map(&now.script);
     if (drawn(4) == 0) HOLDS(pathserve_limit_posts(&now.match, SIZE_MAX) == PATHSERVE_DONE);
+    if (drawn(4) == 0) forget_nothing();
 }
 
 /* ---- posts ---- */
