@@ -125,10 +125,17 @@ fn keeps_none(alloc: Global) -> Result<bool, MatchFault> {
     let (turns, saved) = (game.turns(), snapshot(alloc, game.version())?);
     game.keep_no_journal();
     let stands = snapshot(alloc, game.version())?;
-    let same = ends_a_turn(alloc, &mut game)? && game.turns() == turns + 1 && stands.as_slice() == saved.as_slice();
+    let same = ends_a_turn(alloc, &mut game)?
+        && game.turns() == turns + 1
+        && stands.as_slice() == saved.as_slice();
     let none = game.journal().is_none() && game.script(alloc)?.is_none();
     game.forget(alloc)?;
-    Ok(same && none && turns > 1 && game.turns() == 1 && is_written_as(alloc, &game, saved.as_slice())?)
+    Ok(
+        same && none
+            && turns > 1
+            && game.turns() == 1
+            && is_written_as(alloc, &game, saved.as_slice())?,
+    )
 }
 
 /// Whether a match that kept no journal before its first turn begins one without a turn.

@@ -666,7 +666,7 @@ class Python(unittest.TestCase):
 
     def test_a_match_without_a_journal_differs_in_nothing_else(self):
         compared = 0
-        for posted, _ in self.said(60):
+        for posted, _ in self.said(100):
             with posted.open() as match, posted.open() as keeper:
                 match.keep_no_journal()
                 for at, posts in enumerate(posted.turns):
